@@ -1,0 +1,6 @@
+use Rattle.script.proofs.rehearsal.is_comment.Needs as need
+use Rattle.std.proofs.shelf.Lists.{getD-past}
+use borrow.Author.Needs.{needs}
+
+pub returns-in-rest : need.returns-in-rest
+returns-in-rest c = search (needs, getD-past)

@@ -1,0 +1,4 @@
+pub mod Fault
+pub mod Command
+pub mod Answer
+pub mod Rehearsal

@@ -1,0 +1,3 @@
+pub mod Ask
+pub mod Refusal
+pub mod Store

@@ -1,0 +1,12 @@
+// Requests, and what they do to a store in lent memory.
+
+pub mod ask;
+pub mod refusal;
+pub mod request;
+
+pub use ask::Ask;
+pub use refusal::Refusal;
+pub use request::CLIENTS;
+pub use request::Request;
+pub use request::SHELVES;
+pub use request::apply_all;

@@ -1,0 +1,3 @@
+mod Marks
+mod Numbers
+pub mod FirstLine
