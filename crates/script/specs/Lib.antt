@@ -1,4 +1,2 @@
-pub mod Fault
-pub mod Command
 pub mod Answer
 pub mod Rehearsal

@@ -1,10 +1,6 @@
-// Scripts: text in, text out.
+// A script played from its first line to its last: text in, text out.
 
-pub mod answer;
-pub mod command;
-pub mod fault;
-pub mod rehearsal;
+mod answer;
+mod rehearsal;
 
-pub use command::Command;
-pub use fault::Fault;
 pub use rehearsal::rehearse;

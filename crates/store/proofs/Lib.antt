@@ -1,1 +1,1 @@
-mod Plays
+mod Idle

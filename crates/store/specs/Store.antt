@@ -74,10 +74,14 @@ abbrev pub played : Store → List Request → Store
 played s [] = s
 played s (r ∷ rs) = played (applied r s) rs
 
--- how many of them are done on the way
+-- how many of them are done
+abbrev pub counted : Request → Store → ℕ
+counted r s = cond (done r s) 1 0
+
 abbrev pub tally : Store → List Request → ℕ
 tally s [] = 0
-tally s (r ∷ rs) = cond (done r s) 1 0 + tally (applied r s) rs
+tally s (r ∷ rs) = counted r s + tally (applied r s) rs
 
+-- that number, or why all are refused
 abbrev pub totalled : Store → List Request → Result ℕ Refusal
 totalled s rs = cond (whole s) (Ok (tally s rs)) (Err Tables)

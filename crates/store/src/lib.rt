@@ -1,8 +1,8 @@
 // Requests, and what they do to a store in lent memory.
 
-pub mod ask;
-pub mod refusal;
-pub mod request;
+mod ask;
+mod refusal;
+mod request;
 
 pub use ask::Ask;
 pub use refusal::Refusal;

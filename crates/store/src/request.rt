@@ -1,5 +1,6 @@
 // A client's request, and what doing it does to a store in lent memory.
-ghost use Rattle.store.specs.Store.{applied, lent, outcome, played, totalled, whole};
+ghost use Prim.Native.Nat.{_≤_};
+ghost use Rattle.store.specs.Store.{applied, counted, lent, outcome, played, tally, totalled, whole};
 ghost use mathlib.Core.Path.{_≡_};
 use crate::ask::Ask;
 use crate::refusal::Refusal;
@@ -62,7 +63,34 @@ fn is_whole(shelves: &[u32], lasts: &[u32], words: &[u32]) -> bool
     shelves.len() == SHELVES && lasts.len() == CLIENTS && words.len() == CLIENTS
 }
 
-// Does requests one after the other, passing over those that are refused, and says how many were done.
+// Does one request: 1 if it was done, 0 if it was refused.
+fn count_done(request: Request, shelves: &mut [u32], lasts: &mut [u32], words: &mut [u32]) -> usize
+    ensures count { λ r. ⌜ r ≡ counted request (lent (shelves .entry) (lasts .entry) (words .entry)) ⌝ }
+    ensures bound { λ r. ⌜ r ≤ 1 ⌝ }
+    ensures store { λ _. ⌜ lent (shelves .exit) (lasts .exit) (words .exit) ≡ applied request (lent (shelves .entry) (lasts .entry) (words .entry)) ⌝ }
+{
+    match request.apply(shelves, lasts, words) {
+        Ok(_) => 1,
+        Err(_) => 0,
+    }
+}
+
+// Does requests one after the other, passing over those that are refused: how many were done.
+fn fold(requests: &[Request], shelves: &mut [u32], lasts: &mut [u32], words: &mut [u32]) -> usize
+    ensures count { λ r. ⌜ r ≡ tally (lent (shelves .entry) (lasts .entry) (words .entry)) (now (requests .entry)) ⌝ }
+    ensures store { λ _. ⌜ lent (shelves .exit) (lasts .exit) (words .exit) ≡ played (lent (shelves .entry) (lasts .entry) (words .entry)) (now (requests .entry)) ⌝ }
+{
+    let mut count = 0;
+    let mut rest = requests;
+    while let Some((request, after)) = rest.split_first() {
+        count += count_done(*request, shelves, lasts, words);
+        rest = after;
+    }
+    count
+}
+
+// Does requests one after the other, passing over those that are refused: how many were done.
+// Slices that are no store are refused, and nothing changes.
 pub fn apply_all(
     requests: &[Request],
     shelves: &mut [u32],
@@ -75,11 +103,5 @@ pub fn apply_all(
     if !is_whole(shelves, lasts, words) {
         return Err(Refusal::Tables);
     }
-    let mut count = 0;
-    for request in requests {
-        if request.apply(shelves, lasts, words).is_ok() {
-            count += 1;
-        }
-    }
-    Ok(count)
+    Ok(fold(requests, shelves, lasts, words))
 }

@@ -1,9 +1,9 @@
 -- The first line of a text and the lines behind it, by the mark that ends it.
 use Prim.Native.Nat.{ℕ, _<_}
 use Rattle.text.specs.Lines.{begun, lines}
-use Rattle.text.specs.Text.{beyond, upTo}
+use Rattle.text.specs.Text.{beyond, onward, upTo}
 use lib.Dec.{eqb}
-use lib.ListN.{length}
+use lib.ListN.{drop, length}
 use mathlib.Core.Bool.{Bool, cond, false, true}
 use mathlib.Core.List.{List, [], _∷_}
 use mathlib.Core.Path.{_≡_, ap, refl}
@@ -11,7 +11,7 @@ use native.Mathlib.Omega.{arith}
 
 -- what the first byte makes of it, if it is the mark or not
 by-first : (m : Bool) (b : ℕ) (bs : List ℕ) → begun b (lines bs) ≡ (b ∷ upTo 10 bs) ∷ lines (beyond 10 bs) →
-    cond m ([] ∷ lines bs) (begun b (lines bs)) ≡ cond m [] (b ∷ upTo 10 bs) ∷ lines (cond m bs (beyond 10 bs))
+    cond m ([] ∷ lines bs) (begun b (lines bs)) ≡ cond m [] (b ∷ upTo 10 bs) ∷ lines (drop 1 (cond m (b ∷ bs) (onward 10 bs)))
 by-first true b bs h = refl
 by-first false b bs h = h
 

@@ -3,7 +3,7 @@ use mathlib.Core.Bool.{Bool, _||_, cond}
 use mathlib.Core.List.{List, [], _∷_}
 use Prim.Native.Nat.{ℕ, _+_, _-_, _*_}
 use lib.Dec.{eqb, leb, ltb}
-use lib.ListN.{length}
+use lib.ListN.{drop, length}
 use Rattle.std.specs.Text.{asciiDigit}
 use Rattle.std.specs.declared.option.Option.{Option}
 use Rattle.std.specs.declared.option.Option.the-variants.{None, Some}
@@ -13,10 +13,14 @@ abbrev pub upTo : ℕ → List ℕ → List ℕ
 upTo mark [] = []
 upTo mark (b ∷ bs) = cond (eqb b mark) [] (b ∷ upTo mark bs)
 
--- what stands behind the first `mark`: nothing if there is none
+-- the text from its first `mark` on: nothing if there is none
+abbrev pub onward : ℕ → List ℕ → List ℕ
+onward mark [] = []
+onward mark (b ∷ bs) = cond (eqb b mark) (b ∷ bs) (onward mark bs)
+
+-- what stands behind the first `mark`
 abbrev pub beyond : ℕ → List ℕ → List ℕ
-beyond mark [] = []
-beyond mark (b ∷ bs) = cond (eqb b mark) bs (beyond mark bs)
+beyond mark bs = drop 1 (onward mark bs)
 
 -- without the spaces in front; 32 is the space, the only byte that separates words
 abbrev pub trimmed : List ℕ → List ℕ

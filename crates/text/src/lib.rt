@@ -2,9 +2,23 @@
 ghost use Prim.Native.Nat.{_<_, _≤_};
 ghost use Rattle.std.specs.Slices.{found};
 ghost use Rattle.std.specs.shelf.Text.{sameBytes};
-ghost use Rattle.text.specs.Text.{afterWord, beyond, firstWord, numberUpTo, trimmed, upTo};
-ghost use lib.ListN.{length};
+ghost use Rattle.text.specs.Text.{afterWord, beyond, firstWord, numberUpTo, onward, trimmed, upTo};
+ghost use lib.ListN.{drop, length, take};
 ghost use mathlib.Core.Path.{_≡_};
+
+// Where the first `mark` stands; without one, the length.
+fn find(bytes: &[u8], mark: u8) -> usize
+    ensures within { λ r. ⌜ r ≤ length (now (bytes .entry)) ⌝ }
+    ensures before { λ r. ⌜ take r (now (bytes .entry)) ≡ upTo mark (now (bytes .entry)) ⌝ }
+    ensures from { λ r. ⌜ drop r (now (bytes .entry)) ≡ onward mark (now (bytes .entry)) ⌝ }
+{
+    for (i, byte) in bytes.iter().enumerate() {
+        if *byte == mark {
+            return i;
+        }
+    }
+    bytes.len()
+}
 
 // What stands before the first `mark`, and what stands behind it; without one, all of it and nothing.
 pub fn split_once(bytes: &[u8], mark: u8) -> (&[u8], &[u8])
@@ -12,25 +26,25 @@ pub fn split_once(bytes: &[u8], mark: u8) -> (&[u8], &[u8])
     ensures back { λ r. ⌜ now (r .1) ≡ beyond mark (now (bytes .entry)) ⌝ }
     ensures shorter { λ r. ⌜ (0 < length (now (bytes .entry)) → length (now (r .1)) < length (now (bytes .entry))) ⌝ }
 {
-    for (i, byte) in bytes.iter().enumerate() {
-        if *byte == mark {
-            let (front, back) = bytes.split_at(i);
-            return (front, &back[1..]);
-        }
+    let (front, back) = bytes.split_at(find(bytes, mark));
+    match back.split_first() {
+        Some((_, after)) => (front, after),
+        None => (front, back),
     }
-    (bytes, &[])
 }
 
 // The text from its first byte that is no space.
 fn trim_start(bytes: &[u8]) -> &[u8]
     ensures { λ r. ⌜ now r ≡ trimmed (now (bytes .entry)) ⌝ }
 {
-    for (i, byte) in bytes.iter().enumerate() {
+    let mut rest = bytes;
+    while let Some((byte, after)) = rest.split_first() {
         if *byte != b' ' {
-            return bytes.split_at(i).1;
+            return rest;
         }
+        rest = after;
     }
-    &[]
+    rest
 }
 
 // The first word of a line, empty if there is none, and what stands behind it.
@@ -58,11 +72,13 @@ pub fn parse_number(word: &[u8], max: u32) -> Option<u32>
     }
     let limit = u64::from(max);
     let mut value = 0;
-    for byte in word {
+    let mut rest = word;
+    while let Some((byte, after)) = rest.split_first() {
         if value > limit || !byte.is_ascii_digit() {
             return None;
         }
         value = 10 * value + u64::from(*byte - b'0');
+        rest = after;
     }
     if value > limit {
         None

@@ -1,7 +1,10 @@
 use Rattle.text.proofs.trim_start.Given as given
 use Rattle.text.specs.Text.{trimmed}
-use lib.ListN.{drop}
+use lib.ListN.{length}
 use mathlib.Core.Path.{_≡_}
 
-abbrev pub Inv-loop-i : given.InvT-loop-i
-Inv-loop-i l = trimmed (drop (l .i) (l .bytes)) ≡ trimmed (l .bytes)
+abbrev pub Inv-loop-byte : given.InvT-loop-byte
+Inv-loop-byte l = trimmed (l .rest) ≡ trimmed (l .bytes)
+
+abbrev pub μ-loop-byte : given.MeasureT-loop-byte
+μ-loop-byte l = length (l .rest)

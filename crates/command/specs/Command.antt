@@ -9,10 +9,10 @@ use Rattle.std.specs.Options.{okOr}
 use Rattle.std.specs.declared.result.Result.{Result}
 use Rattle.std.specs.declared.result.Result.the-variants.{Ok, Err}
 use Rattle.std.specs.shelf.Text.{sameBytes}
-use Rattle.script.specs.declared.command.Command.{Command}
-use Rattle.script.specs.declared.command.Command.the-variants.{Do, Show}
-use Rattle.script.specs.declared.fault.Fault.{Fault}
-use Rattle.script.specs.declared.fault.Fault.the-variants.{Malformed, OutOfRange}
+use Rattle.command.specs.declared.parse.Command.{Command}
+use Rattle.command.specs.declared.parse.Command.the-variants.{Do, Show}
+use Rattle.command.specs.declared.fault.Fault.{Fault}
+use Rattle.command.specs.declared.fault.Fault.the-variants.{Malformed, OutOfRange}
 use Rattle.store.specs.Ask.{keyOf}
 use Rattle.store.specs.declared.ask.Ask.{Ask}
 use Rattle.store.specs.declared.ask.Ask.the-variants.{Put, Take, Look}

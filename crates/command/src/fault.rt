@@ -1,5 +1,5 @@
 // What is wrong with a line of a script.
-ghost use Rattle.script.specs.Fault.{numberOf};
+ghost use Rattle.command.specs.Fault.{numberOf};
 ghost use mathlib.Core.Path.{_≡_};
 
 #[derive(Clone, Copy, PartialEq, Eq, Debug)]

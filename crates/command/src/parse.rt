@@ -1,5 +1,5 @@
-// The commands of a script, read from its lines.
-ghost use Rattle.script.specs.Command.{askOf, commandOf, ended, fieldOf, requestOf};
+// What a line of a script commands.
+ghost use Rattle.command.specs.Command.{askOf, commandOf, ended, fieldOf, requestOf};
 ghost use Prim.Native.Nat.{_≤_};
 ghost use Rattle.std.specs.Vec.{made};
 ghost use mathlib.Core.Path.{_≡_};
