@@ -3,7 +3,7 @@ use Prim.Native.Nat.{ℕ, _+_, _<_, _≤_}
 use Rattle.script.specs.Answer.{rows}
 use Rattle.std.proofs.shelf.Lists.{append-assoc, append-nil, at-drop-all, at-drop-more}
 use lib.ListN.{drop, getD, length}
-use mathlib.Core.List.{List, [], _++_}
+use mathlib.Core.List.{List, _++_}
 use mathlib.Core.Path.{_≡_, _∙_, ap, sym}
 
 pub rows-more : (row : ℕ → ℕ → List ℕ) (xs : List ℕ) (i : ℕ) (was is all : List ℕ) → i < length xs → is ≡ was ++ row i (getD xs i 0) → was ++ rows row i (drop i xs) ≡ all → is ++ rows row (i + 1) (drop (i + 1) xs) ≡ all

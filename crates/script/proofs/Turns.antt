@@ -7,7 +7,7 @@ use Rattle.text.proofs.FirstLine.{first-line}
 use Rattle.text.specs.Lines.{lines}
 use Rattle.text.specs.Text.{beyond, upTo}
 use lib.ListN.{length}
-use mathlib.Core.List.{List, [], _++_}
+use mathlib.Core.List.{List, _++_}
 use mathlib.Core.Path.{_≡_, _∙_, ap, sym}
 
 pub line-more : (n : ℕ) (s t : Store) (rest line left was is all : List ℕ) → 0 < length rest → line ≡ upTo 10 rest → left ≡ beyond 10 rest → t ≡ after line s → is ≡ was ++ printed n line s → was ++ transcript n s (lines rest) ≡ all → is ++ transcript (n + 1) t (lines left) ≡ all

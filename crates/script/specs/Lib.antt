@@ -1,2 +1,3 @@
 pub mod Answer
 pub mod Rehearsal
+pub mod Laws

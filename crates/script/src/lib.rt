@@ -3,4 +3,5 @@
 mod answer;
 mod rehearsal;
 
+pub use rehearsal::only_requests_count;
 pub use rehearsal::rehearse;

@@ -1,4 +1,5 @@
 // A script played from its first line to its last.
+ghost use Rattle.script.specs.Laws.{OnlyRequests};
 ghost use Rattle.script.specs.Rehearsal.{after, answered, isComment, isPassed, printed, rehearsed, replyText, transcript, turned};
 ghost use Rattle.std.specs.Of.String.{string-bytes};
 ghost use Rattle.std.specs.Vec.{made};
@@ -121,4 +122,11 @@ pub fn rehearse(heap: Global, script: &[u8]) -> Result<String, AllocError>
     let mut lasts = [0; CLIENTS];
     let mut words = [0; CLIENTS];
     play_all(heap, script, &mut shelves, &mut lasts, &mut words)
+}
+
+// A script's store is what its requests make of it.
+pub fn only_requests_count() -> u8
+    ensures { λ _. ⌜ OnlyRequests ⌝ }
+{
+    0
 }

@@ -1,4 +1,4 @@
--- What a request asks of one shelf. This is the only file that looks at the kind of a request.
+-- What a request asks of one shelf. Of all that is said of a store, only this file looks at the kind of a request.
 use Prim.Native.Nat.{ℕ, _-_}
 use Rattle.store.specs.declared.ask.Ask.{Ask}
 use Rattle.store.specs.declared.ask.Ask.the-variants.{Put, Take, Look}

@@ -1,6 +1,6 @@
 -- What requests make of a store: its tables, one request, a list of requests.
 -- Nothing here looks at the kind of a request: it is asked for its shelf, what it leaves there and its word.
-use mathlib.Core.Bool.{Bool, true, false, cond, _&&_, not}
+use mathlib.Core.Bool.{Bool, cond, _&&_, not}
 use mathlib.Core.List.{List, [], _∷_}
 use Prim.Native.Nat.{ℕ, _+_}
 use denote.Ref.{RefT}

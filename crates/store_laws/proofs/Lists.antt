@@ -8,8 +8,8 @@ use Rattle.store.specs.declared.request.Request.{Request}
 use Rattle.store_laws.proofs.Steps.{done-is, idle}
 use Rattle.store_laws.specs.Laws.{Got, InTurn, KeepsWord, NeverFalls, Once, following, numbers}
 use lib.Dec.{eqb}
-use lib.ListN.{getD, length, replicate}
-use mathlib.Core.Bool.{Bool, _&&_, cond, false, true}
+use lib.ListN.{getD, replicate}
+use mathlib.Core.Bool.{_&&_, false, true}
 use mathlib.Core.List.{List, [], _++_, _∷_}
 use mathlib.Core.Logic.{_⊎_, ⊎-elim}
 use mathlib.Core.Path.{_≡_, _∙_, ap, refl, subst, sym}

@@ -1,18 +1,18 @@
 -- The tables of a store read as functions.
-use Prim.Native.Nat.{ℕ, _+_, _<_}
+use Prim.Native.Nat.{ℕ, _<_}
 use Rattle.std.proofs.shelf.Lists.{getD-set-other, getD-set-same, length-set}
 use Rattle.std.proofs.shelf.Tests.{cases-bool, cases-eq, cond-false, cond-true, eq-eqb, ne-eqb}
 use Rattle.std.proofs.shelf.Ways.{tells}
 use Rattle.store.specs.Ask.{keyOf, leaves, says}
-use Rattle.store.specs.Store.{Store, applied, bare, done, isNext, last, outcome, played, shelf, whole, word}
+use Rattle.store.specs.Store.{Store, applied, done, isNext, last, played, shelf, whole, word}
 use Rattle.store.specs.declared.refusal.Refusal.the-variants.{Key, NotNext, Tables}
 use Rattle.store.specs.declared.request.Request.{Request}
 use Rattle.store_laws.proofs.Lists.{zeros}
 use Rattle.store_laws.proofs.Steps.{after, all-passed, done-is, idle, lengths}
 use Rattle.store_laws.specs.Reading.{Reading, ReadsAs, act, acted, at, due, reading}
-use lib.Dec.{eqb, leb, ltb}
+use lib.Dec.{eqb, ltb}
 use lib.ListN.{getD, length, set}
-use mathlib.Core.Bool.{Bool, _&&_, cond, false, not, true}
+use mathlib.Core.Bool.{Bool, _&&_, false, not, true}
 use mathlib.Core.List.{List, [], _∷_}
 use mathlib.Core.Logic.{⊎-elim}
 use mathlib.Core.Path.{_≡_, _∙_, ap, fun-ext, refl, sym}

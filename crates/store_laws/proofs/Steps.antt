@@ -1,16 +1,13 @@
 -- What one request does to its own client's row and to the others', whatever it asks.
 use mathlib.Core.Path.{_≡_, _∙_, refl, sym, ap}
 use mathlib.Core.Bool.{Bool, true, false, cond, _&&_, not}
-use mathlib.Core.List.{List, [], _∷_, _++_}
-use mathlib.Core.Logic.{_⊎_, inl, inr, ⊎-elim}
-use Prim.Native.Nat.{ℕ, _+_, _-_, _<_, _≤_}
+use Prim.Native.Nat.{ℕ, _+_, _-_, _<_}
 use native.Mathlib.Omega.{arith}
 use lib.Dec.{eqb, ltb}
-use lib.ListN.{length, getD, set}
+use lib.ListN.{length, set}
 use Rattle.std.proofs.shelf.Lists.{getD-set-same, getD-set-other}
-use Rattle.std.proofs.shelf.Tests.{and-parts, cond-false, cond-true, eqb-true, false≢true, ltb-false, ltb-true}
+use Rattle.std.proofs.shelf.Tests.{and-parts, cond-true, eqb-true, false≢true, ltb-false, ltb-true}
 use Rattle.std.specs.Results.{isOk}
-use Rattle.std.specs.declared.result.Result.{Result}
 use Rattle.std.specs.declared.result.Result.the-variants.{Ok, Err}
 use Rattle.store.specs.Ask.{keyOf, leaves, says}
 use Rattle.store.specs.Store.{Store, applied, done, isNext, last, outcome, shelf, tables, whole, word}

@@ -4,7 +4,6 @@ use Rattle.std.proofs.shelf.Tests.{cond-false, cond-true, eq-eqb, ne-eqb}
 use Rattle.text.specs.Text.{onward, upTo}
 use lib.Dec.{eqb}
 use lib.ListN.{drop, getD, length, take}
-use mathlib.Core.Bool.{cond}
 use mathlib.Core.List.{List, [], _∷_}
 use mathlib.Core.Path.{_≡_, _∙_, ap, refl}
 use native.Mathlib.Omega.{arith}
