@@ -1,5 +1,5 @@
 // Numbers in bytes, high byte first: read from the front of one lent slice, written into another.
-ghost use Rattle.bytes.specs.Bytes.{four, one, placed, placedAt, seen, seenParts, some, two};
+ghost use Rattle.bytes.specs.Bytes.{four, fourBytes, one, placed, placedAt, seen, seenParts, some, two, twoBytes};
 ghost use Rattle.bytes.specs.Exact.{Numbers};
 ghost use lib.ListN.{length};
 ghost use mathlib.Core.Path.{_≡_};
@@ -37,6 +37,20 @@ pub fn read_slice(bytes: &[u8], count: usize) -> Option<(&[u8], &[u8])>
     ensures { λ r. ⌜ seenParts r ≡ some count (now (bytes .entry)) ⌝ }
 {
     if count > bytes.len() { None } else { Some(bytes.split_at(count)) }
+}
+
+// A number as two bytes.
+pub fn u16_bytes(number: u16) -> [u8; 2]
+    ensures { λ r. ⌜ r ≡ twoBytes number ⌝ }
+{
+    number.to_be_bytes()
+}
+
+// A number as four bytes.
+pub fn u32_bytes(number: u32) -> [u8; 4]
+    ensures { λ r. ⌜ r ≡ fourBytes number ⌝ }
+{
+    number.to_be_bytes()
 }
 
 // Writes `bytes` over what stands in `out` from `at` on, and says where they end.

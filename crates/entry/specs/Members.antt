@@ -1,0 +1,48 @@
+-- The members of a council: a list in bytes, a set of bits in memory.
+use mathlib.Core.Bool.{Bool, cond, not, true, _&&_}
+use mathlib.Core.List.{List, [], _∷_, _++_}
+use Prim.Native.Nat.{ℕ, zero, suc, _+_, _/_, _%_, _^_}
+use lib.Bits.{bitOr}
+use lib.Dec.{eqb, leb, ltb}
+use lib.ListN.{length}
+use Rattle.bytes.specs.Bytes.{Read, _then_, one, some}
+use Rattle.entry.specs.declared.members.Members.{Members}
+use Rattle.std.specs.declared.option.Option.the-variants.{None, Some}
+
+-- a list of stations, each above the one before and below 16, the first at least i
+abbrev pub rising : ℕ → List ℕ → Bool
+rising i [] = true
+rising i (m ∷ ms) = leb i m && (ltb m 16 && rising (m + 1) ms)
+
+-- the members found so far, and what is left of the list
+pub record Walk : Type 0 where
+  pub set : ℕ
+  pub left : List ℕ
+
+abbrev pub walked : ℕ → List ℕ → Walk
+walked s ms = record { set = s; left = ms }
+
+-- station i is a member if it comes next in the list
+abbrev pub next : ℕ → ℕ → List ℕ → Walk
+next i s [] = walked s []
+next i s (m ∷ ms) = cond (eqb m i) (walked (bitOr s (2 ^ i)) ms) (walked s (m ∷ ms))
+
+abbrev pub visited : ℕ → Walk → Walk
+visited i w = next i (w .set) (w .left)
+
+-- n stations visited, from i on
+unfoldable pub walk : ℕ → ℕ → Walk → Walk
+walk zero i w = w
+walk (suc n) i w = walk n (i + 1) (visited i w)
+
+-- the members that a list names: sound if all stations visited in turn use it up, and there is one at least
+unfoldable pub membersIn : List ℕ → Members
+membersIn ms =
+    record { set = walk 16 0 (walked 0 ms) .set; sound = eqb (length (walk 16 0 (walked 0 ms) .left)) 0 && not (eqb (length ms) 0) }
+
+-- a list in bytes: how many, at most 16, and then each
+abbrev pub listOf : List ℕ → Read (List ℕ)
+listOf bs = one bs then λ n bs. cond (ltb 16 n) None (some n bs)
+
+abbrev pub membersOf : List ℕ → Read Members
+membersOf bs = listOf bs then λ ms bs. Some (membersIn ms, bs)
