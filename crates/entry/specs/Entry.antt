@@ -3,8 +3,8 @@ use mathlib.Core.Bool.{Bool, cond, _&&_}
 use mathlib.Core.List.{List, [], _∷_, _++_}
 use Prim.Native.Nat.{ℕ}
 use lib.Dec.{eqb, ltb}
-use Rattle.bytes.specs.Bytes.{Read, _then_, four, one, two}
-use Rattle.entry.specs.Members.{membersOf}
+use Rattle.bytes.specs.Bytes.{Read, _then_, four, fourBytes, one, two, twoBytes}
+use Rattle.entry.specs.Members.{listBytes, listed, membersOf}
 use Rattle.entry.specs.declared.entry.Entry.{Entry}
 use Rattle.entry.specs.declared.entry.Entry.the-variants.{Call, Close}
 use Rattle.entry.specs.declared.read.Found.{Found}
@@ -34,3 +34,16 @@ entryOf bs =
     one bs then λ kind bs.
     cond (eqb kind 1) (requestOf bs then λ r bs. Some (record { entry = Call r; sound = ltb (keyOf (r .ask)) 1024 }, bs))
     (cond (eqb kind 2) (membersOf bs then λ ms bs. Some (record { entry = Close (ms .set); sound = ms .sound }, bs)) None)
+
+-- the bytes of what is asked, of a request, of an entry
+abbrev pub askBytes : Ask → List ℕ
+askBytes (Put key value) = 1 ∷ (twoBytes key ++ fourBytes value)
+askBytes (Take key amount) = 2 ∷ (twoBytes key ++ fourBytes amount)
+askBytes (Look key) = 3 ∷ twoBytes key
+
+abbrev pub requestBytes : Request → List ℕ
+requestBytes r = r .client ∷ (fourBytes (r .number) ++ askBytes (r .ask))
+
+abbrev pub entryBytes : Entry → List ℕ
+entryBytes (Call r) = 1 ∷ requestBytes r
+entryBytes (Close s) = 2 ∷ listBytes (listed s)

@@ -4,8 +4,9 @@ use mathlib.Core.List.{List, [], _∷_, _++_}
 use Prim.Native.Nat.{ℕ, zero, suc, _+_, _/_, _%_, _^_}
 use lib.Bits.{bitOr}
 use lib.Dec.{eqb, leb, ltb}
-use lib.ListN.{length}
+use lib.ListN.{length, set}
 use Rattle.bytes.specs.Bytes.{Read, _then_, one, some}
+use Rattle.entry.specs.declared.members.Listing.{Listing}
 use Rattle.entry.specs.declared.members.Members.{Members}
 use Rattle.std.specs.declared.option.Option.the-variants.{None, Some}
 
@@ -46,3 +47,20 @@ listOf bs = one bs then λ n bs. cond (ltb 16 n) None (some n bs)
 
 abbrev pub membersOf : List ℕ → Read Members
 membersOf bs = listOf bs then λ ms bs. Some (membersIn ms, bs)
+
+-- the members of a set among n stations from i on, rising: bit 0 says whether i is one
+unfoldable pub listing : ℕ → ℕ → ℕ → List ℕ
+listing zero i s = []
+listing (suc n) i s = cond (eqb (s % 2) 1) (i ∷ listing n (i + 1) (s / 2)) (listing n (i + 1) (s / 2))
+
+-- a list in an array, with a station more if it is a member
+abbrev pub listedNext : Listing → ℕ → Bool → Listing
+listedNext l i member =
+    record { stations = cond member (set (l .stations) (l .len) i) (l .stations); len = cond member (l .len + 1) (l .len) }
+
+-- a set as a list, and as bytes
+abbrev pub listed : ℕ → List ℕ
+listed s = listing 16 0 s
+
+abbrev pub listBytes : List ℕ → List ℕ
+listBytes ms = length ms ∷ ms

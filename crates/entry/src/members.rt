@@ -1,10 +1,10 @@
 // The members of a council, listed in bytes, as a set of bits.
-ghost use Prim.Native.Nat.{_^_, _<_};
+ghost use Prim.Native.Nat.{_^_, _<_, _≤_};
 ghost use Rattle.bytes.specs.Bytes.{seen};
-ghost use Rattle.entry.specs.Members.{membersIn, membersOf, visited, walked};
+ghost use Rattle.entry.specs.Members.{listed, listedNext, membersIn, membersOf, visited, walked};
 ghost use lib.Bits.{bitOr};
 ghost use lib.Dec.{eqb};
-ghost use lib.ListN.{length};
+ghost use lib.ListN.{length, take};
 ghost use mathlib.Core.Bool.{_&&_, not};
 ghost use mathlib.Core.Path.{_≡_};
 use bytes::read_slice;
@@ -67,4 +67,38 @@ pub fn read_members(bytes: &[u8]) -> Option<(Members, &[u8])>
     }
     let (list, rest) = read_slice(rest, usize::from(count))?;
     Some((gather(list), rest))
+}
+
+// The members of a set, rising: the first `len` of the stations.
+#[derive(Clone, Copy)]
+pub struct Listing {
+    pub stations: [u8; 16],
+    pub len: usize,
+}
+
+// One station visited: it is listed next if it is a member.
+fn list_next(listing: Listing, station: u8, member: bool) -> Listing
+    requires { ⌜ listing .len < 16 ⌝ }
+    ensures { λ r. ⌜ r ≡ listedNext listing station member ⌝ }
+{
+    let mut next = listing;
+    if member {
+        next.stations[listing.len] = station;
+        next.len = listing.len + 1;
+    }
+    next
+}
+
+// A set as a list.
+pub fn list_members(set: u16) -> Listing
+    ensures within { λ r. ⌜ r .len ≤ 16 ⌝ }
+    ensures listed { λ r. ⌜ take (r .len) (r .stations) ≡ listed set ⌝ }
+{
+    let mut listing = Listing { stations: [0; 16], len: 0 };
+    let mut left = set;
+    for station in 0..16 {
+        listing = list_next(listing, station, left % 2 == 1);
+        left /= 2;
+    }
+    listing
 }
