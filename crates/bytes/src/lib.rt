@@ -2,6 +2,7 @@
 ghost use Rattle.bytes.specs.Bytes.{four, fourBytes, one, placed, placedAt, seen, seenParts, some, two, twoBytes};
 ghost use Rattle.bytes.specs.Exact.{Numbers};
 ghost use lib.ListN.{length};
+ghost use mathlib.Core.List.{_++_};
 ghost use mathlib.Core.Path.{_≡_};
 
 // One byte, and the bytes behind it.
@@ -65,6 +66,19 @@ pub fn put(out: &mut [u8], at: usize, bytes: &[u8]) -> Option<usize>
     }
     out[at..end].copy_from_slice(bytes);
     Some(end)
+}
+
+// Writes `first` and then `second`, as `put` would write the two joined.
+pub fn put_both(out: &mut [u8], at: usize, first: &[u8], second: &[u8]) -> Option<usize>
+    ensures end { λ r. ⌜ r ≡ placed (length (now (out .entry))) at (length (now (first .entry) ++ now (second .entry))) ⌝ }
+    ensures bytes { λ _. ⌜ now (out .exit) ≡ placedAt (now (out .entry)) at (now (first .entry) ++ now (second .entry)) ⌝ }
+{
+    let end = at.checked_add(first.len())?.checked_add(second.len())?;
+    if end > out.len() {
+        return None;
+    }
+    let Some(next) = put(out, at, first) else { unreachable() };
+    put(out, next, second)
 }
 
 // Reading and writing numbers fit each other.

@@ -44,6 +44,12 @@ askBytes (Look key) = 3 ∷ twoBytes key
 abbrev pub requestBytes : Request → List ℕ
 requestBytes r = r .client ∷ (fourBytes (r .number) ++ askBytes (r .ask))
 
+abbrev pub callBytes : Request → List ℕ
+callBytes r = 1 ∷ requestBytes r
+
+abbrev pub closeBytes : ℕ → List ℕ
+closeBytes s = 2 ∷ listBytes (listed s)
+
 abbrev pub entryBytes : Entry → List ℕ
-entryBytes (Call r) = 1 ∷ requestBytes r
-entryBytes (Close s) = 2 ∷ listBytes (listed s)
+entryBytes (Call r) = callBytes r
+entryBytes (Close s) = closeBytes s

@@ -93,6 +93,7 @@ fn list_next(listing: Listing, station: u8, member: bool) -> Listing
 pub fn list_members(set: u16) -> Listing
     ensures within { λ r. ⌜ r .len ≤ 16 ⌝ }
     ensures listed { λ r. ⌜ take (r .len) (r .stations) ≡ listed set ⌝ }
+    ensures count { λ r. ⌜ r .len ≡ length (listed set) ⌝ }
 {
     let mut listing = Listing { stations: [0; 16], len: 0 };
     let mut left = set;
