@@ -4,7 +4,7 @@ use mathlib.Core.List.{List, [], _∷_, _++_}
 use Prim.Native.Nat.{ℕ}
 use lib.Dec.{eqb, ltb}
 use Rattle.bytes.specs.Bytes.{Read, _then_, four, fourBytes, one, two, twoBytes}
-use Rattle.entry.specs.Members.{listBytes, listed, membersOf}
+use Rattle.entry.specs.Members.{listBytes, listOf, listed, membersIn}
 use Rattle.entry.specs.declared.entry.Entry.{Entry}
 use Rattle.entry.specs.declared.entry.Entry.the-variants.{Call, Close}
 use Rattle.entry.specs.declared.read.Found.{Found}
@@ -28,12 +28,24 @@ requestOf bs =
     one bs then λ client bs. four bs then λ number bs. askOf bs then λ ask bs.
     Some (record { client = client; number = number; ask = ask }, bs)
 
--- an entry: 1 and a request, which is sound if its key is at most 1,023; or 2 and the next council's members
-abbrev pub entryOf : List ℕ → Read Found
-entryOf bs =
+-- an entry as it stands in bytes: 1 and a request, or 2 and a list of members, which need be no council
+pub data Raw : Type 0 where
+  Asks : Request → Raw
+  Names : List ℕ → Raw
+
+abbrev pub rawOf : List ℕ → Read Raw
+rawOf bs =
     one bs then λ kind bs.
-    cond (eqb kind 1) (requestOf bs then λ r bs. Some (record { entry = Call r; sound = ltb (keyOf (r .ask)) 1024 }, bs))
-    (cond (eqb kind 2) (membersOf bs then λ ms bs. Some (record { entry = Close (ms .set); sound = ms .sound }, bs)) None)
+    cond (eqb kind 1) (requestOf bs then λ r bs. Some (Asks r, bs))
+    (cond (eqb kind 2) (listOf bs then λ ms bs. Some (Names ms, bs)) None)
+
+-- the entry that it is, and whether all of it is in range: a key up to 1,023, members that are a council
+abbrev pub foundIn : Raw → Found
+foundIn (Asks r) = record { entry = Call r; sound = ltb (keyOf (r .ask)) 1024 }
+foundIn (Names ms) = record { entry = Close (membersIn ms .set); sound = membersIn ms .sound }
+
+abbrev pub entryOf : List ℕ → Read Found
+entryOf bs = rawOf bs then λ raw bs. Some (foundIn raw, bs)
 
 -- the bytes of what is asked, of a request, of an entry
 abbrev pub askBytes : Ask → List ℕ
@@ -53,3 +65,7 @@ closeBytes s = 2 ∷ listBytes (listed s)
 abbrev pub entryBytes : Entry → List ℕ
 entryBytes (Call r) = callBytes r
 entryBytes (Close s) = closeBytes s
+
+abbrev pub rawBytes : Raw → List ℕ
+rawBytes (Asks r) = callBytes r
+rawBytes (Names ms) = 2 ∷ listBytes ms

@@ -10,11 +10,6 @@ use Rattle.entry.specs.declared.members.Listing.{Listing}
 use Rattle.entry.specs.declared.members.Members.{Members}
 use Rattle.std.specs.declared.option.Option.the-variants.{None, Some}
 
--- a list of stations, each above the one before and below 16, the first at least i
-abbrev pub rising : ℕ → List ℕ → Bool
-rising i [] = true
-rising i (m ∷ ms) = leb i m && (ltb m 16 && rising (m + 1) ms)
-
 -- the members found so far, and what is left of the list
 pub record Walk : Type 0 where
   pub set : ℕ
