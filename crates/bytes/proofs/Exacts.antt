@@ -1,14 +1,13 @@
 -- Readers one after the other, and numbers.
-use Prim.Native.Nat.{ℕ, _%_, _*_, _+_, _/_, _<_, _^_, _≤_}
+use Prim.Native.Nat.{ℕ, _%_, _*_, _+_, _/_, _<_, _^_}
 use Rattle.bytes.specs.Bytes.{Read, _then_, four, fourBytes, one, oneByte, some, two, twoBytes}
 use Rattle.bytes.specs.Exact.{Bytes, Exact, Numbers}
 use Rattle.std.proofs.shelf.Lists.{drop-at, length-append, length-take-le, take-append-drop, take-at}
 use Rattle.std.proofs.shelf.Tests.{cases-bool, cond-false, cond-true, le-ltb, ltb-false}
-use Rattle.std.specs.declared.option.Option.{Option}
 use Rattle.std.specs.declared.option.Option.the-variants.{None, Some}
 use lib.Dec.{ltb}
 use lib.ListN.{drop, length, take}
-use mathlib.Core.Bool.{cond, false, true}
+use mathlib.Core.Bool.{false, true}
 use mathlib.Core.List.{List, [], _++_, _∷_}
 use mathlib.Core.Logic.{⊎-elim}
 use mathlib.Core.Path.{_≡_, _∙_, ap, refl, subst, sym}
@@ -92,9 +91,9 @@ some-only n bs ys rest h e =
     ⊎-elim
     (λ (k : ltb (length bs) n ≡ true). absurd (none-some (sym (cond-true (ltb (length bs) n) None (Some (take n bs, drop n bs)) k) ∙ e)))
     (λ (k : ltb (length bs) n ≡ false).
-      let f = sym (cond-false (ltb (length bs) n) None (Some (take n bs, drop n bs)) k) ∙ e in
-      let v = same-value f in
-      (sym (ap length v) ∙ length-take-le n bs (ltb-false (length bs) n k), sym (take-append-drop n bs) ∙ cc (v, same-rest f)))
+    let f = sym (cond-false (ltb (length bs) n) None (Some (take n bs, drop n bs)) k) ∙ e in
+    let v = same-value f in
+    (sym (ap length v) ∙ length-take-le n bs (ltb-false (length bs) n k), sym (take-append-drop n bs) ∙ cc (v, same-rest f)))
     (cases-bool (ltb (length bs) n))
 
 some-back : (n : ℕ) (ys rest : List ℕ) → length ys ≡ n → some n (ys ++ rest) ≡ Some (ys, rest)

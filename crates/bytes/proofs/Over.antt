@@ -26,7 +26,7 @@ over-over xs ys zs at h =
     let is : over xs at ys ≡ front ++ back = sym (append-assoc (take at xs) ys back) in
     let before : take n (over xs at ys) ≡ front = ap (take n) is ∙ take-at front back n long in
     let behind : drop (n + length zs) (over xs at ys) ≡ drop (n + length zs) xs =
-      sym (drop-drop (length zs) n (over xs at ys)) ∙ ap (λ (l : List ℕ). drop (length zs) (drop n l)) is ∙ ap (drop (length zs)) (drop-at front back n long) ∙ drop-drop (length zs) n xs in
+    sym (drop-drop (length zs) n (over xs at ys)) ∙ ap (λ (l : List ℕ). drop (length zs) (drop n l)) is ∙ ap (drop (length zs)) (drop-at front back n long) ∙ drop-drop (length zs) n xs in
     let count : at + length (ys ++ zs) ≡ n + length zs = omega (arith, length-append ys zs) in
     ap (λ (l : List ℕ). l ++ (zs ++ drop (n + length zs) (over xs at ys))) before ∙ ap (λ (l : List ℕ). front ++ (zs ++ l)) behind ∙ append-assoc (take at xs) ys (zs ++ drop (n + length zs) xs) ∙
     ap (λ (l : List ℕ). take at xs ++ l) (sym (append-assoc ys zs (drop (n + length zs) xs))) ∙ ap (λ (k : ℕ). take at xs ++ ((ys ++ zs) ++ drop k xs)) (sym count)

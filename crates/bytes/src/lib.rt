@@ -37,14 +37,18 @@ pub fn read_u32(bytes: &[u8]) -> Option<(u32, &[u8])>
 pub fn read_slice(bytes: &[u8], count: usize) -> Option<(&[u8], &[u8])>
     ensures { λ r. ⌜ seenParts r ≡ some count (now (bytes .entry)) ⌝ }
 {
-    if count > bytes.len() { None } else { Some(bytes.split_at(count)) }
+    if count > bytes.len() {
+        None
+    } else {
+        Some(bytes.split_at(count))
+    }
 }
 
 // A number as two bytes.
-pub fn u16_bytes(number: u16) -> [u8; 2]
-    ensures { λ r. ⌜ r ≡ twoBytes number ⌝ }
+pub fn u16_bytes(value: u16) -> [u8; 2]
+    ensures { λ r. ⌜ r ≡ twoBytes value ⌝ }
 {
-    number.to_be_bytes()
+    value.to_be_bytes()
 }
 
 // A number as four bytes.
@@ -77,7 +81,9 @@ pub fn put_both(out: &mut [u8], at: usize, first: &[u8], second: &[u8]) -> Optio
     if end > out.len() {
         return None;
     }
-    let Some(next) = put(out, at, first) else { unreachable() };
+    let Some(next) = put(out, at, first) else {
+        unreachable()
+    };
     put(out, next, second)
 }
 

@@ -15,7 +15,7 @@ one-more true xs n i rest h = ap (λ (l : List ℕ). l ++ rest) (take-more-set x
 one-more false xs n i rest h = refl
 
 pub listing-more : (l r : Listing) (i s : ℕ) (all : List ℕ) → i < 16 → l .len < length (l .stations) → r ≡ listedNext l i (eqb (s % 2) 1) → take (l .len) (l .stations) ++ listing (16 - i) i s ≡ all →
-  take (r .len) (r .stations) ++ listing (16 - (i + 1)) (i + 1) (s / 2) ≡ all
+    take (r .len) (r .stations) ++ listing (16 - (i + 1)) (i + 1) (s / 2) ≡ all
 unfolding listing
 listing-more l r i s all h room e inv =
     let n : 16 - i ≡ suc (16 - (i + 1)) = omega arith in

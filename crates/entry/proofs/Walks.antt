@@ -1,7 +1,7 @@
 -- Visiting the stations in turn.
 use Prim.Native.Nat.{ℕ, _+_, _-_, _<_, _≤_, suc}
 use Rattle.entry.specs.Members.{Walk, visited, walk}
-use mathlib.Core.Path.{_≡_, _∙_, ap, sym}
+use mathlib.Core.Path.{_≡_, _∙_, ap}
 use native.Mathlib.Omega.{arith}
 
 pub walk-more : (i : ℕ) (w v : Walk) → i < 16 → v ≡ visited i w → walk (16 - (i + 1)) (i + 1) v ≡ walk (16 - i) i w

@@ -1,6 +1,6 @@
 -- Entries of a log as bytes.
-use mathlib.Core.Bool.{Bool, cond, _&&_}
-use mathlib.Core.List.{List, [], _∷_, _++_}
+use mathlib.Core.Bool.{cond}
+use mathlib.Core.List.{List, _∷_, _++_}
 use Prim.Native.Nat.{ℕ}
 use lib.Dec.{eqb, ltb}
 use Rattle.bytes.specs.Bytes.{Read, _then_, four, fourBytes, one, two, twoBytes}

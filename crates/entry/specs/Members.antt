@@ -1,9 +1,9 @@
 -- The members of a council: a list in bytes, a set of bits in memory.
-use mathlib.Core.Bool.{Bool, cond, not, true, _&&_}
-use mathlib.Core.List.{List, [], _∷_, _++_}
+use mathlib.Core.Bool.{Bool, cond, not, _&&_}
+use mathlib.Core.List.{List, [], _∷_}
 use Prim.Native.Nat.{ℕ, zero, suc, _+_, _/_, _%_, _^_}
 use lib.Bits.{bitOr}
-use lib.Dec.{eqb, leb, ltb}
+use lib.Dec.{eqb, ltb}
 use lib.ListN.{length, set}
 use Rattle.bytes.specs.Bytes.{Read, _then_, one, some}
 use Rattle.entry.specs.declared.members.Listing.{Listing}

@@ -54,7 +54,10 @@ fn gather(list: &[u8]) -> Members
         set = found;
         rest = after;
     }
-    Members { set, sound: is_used_up(list, rest) }
+    Members {
+        set,
+        sound: is_used_up(list, rest),
+    }
 }
 
 // How many there are, at most 16, and then each.
@@ -95,7 +98,10 @@ pub fn list_members(set: u16) -> Listing
     ensures listed { λ r. ⌜ take (r .len) (r .stations) ≡ listed set ⌝ }
     ensures count { λ r. ⌜ r .len ≡ length (listed set) ⌝ }
 {
-    let mut listing = Listing { stations: [0; 16], len: 0 };
+    let mut listing = Listing {
+        stations: [0; 16],
+        len: 0,
+    };
     let mut left = set;
     for station in 0..16 {
         listing = list_next(listing, station, left % 2 == 1);

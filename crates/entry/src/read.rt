@@ -4,9 +4,9 @@ ghost use Rattle.entry.specs.Entry.{askOf, entryOf, requestOf};
 ghost use mathlib.Core.Path.{_≡_};
 use crate::entry::Entry;
 use crate::members::read_members;
+use bytes::read_u8;
 use bytes::read_u16;
 use bytes::read_u32;
-use bytes::read_u8;
 use store::Ask;
 use store::Request;
 
@@ -42,7 +42,14 @@ fn read_request(bytes: &[u8]) -> Option<(Request, &[u8])>
     let (client, rest) = read_u8(bytes)?;
     let (number, rest) = read_u32(rest)?;
     let (ask, rest) = read_ask(rest)?;
-    Some((Request { client, number, ask }, rest))
+    Some((
+        Request {
+            client,
+            number,
+            ask,
+        },
+        rest,
+    ))
 }
 
 // The entry at the front of some bytes, and those behind it; nothing if they are cut short, of an unknown kind,
@@ -54,11 +61,25 @@ pub fn read_entry(bytes: &[u8]) -> Option<(Found, &[u8])>
     match kind {
         1 => {
             let (request, rest) = read_request(rest)?;
-            Some((Found { entry: Entry::Call(request), sound: request.ask.key() < 1024 }, rest))
+            Some((
+                Found {
+                    entry: Entry::Call(request),
+                    sound: request.ask.key() < 1024,
+                },
+                rest,
+            ))
         }
         2 => {
             let (members, rest) = read_members(rest)?;
-            Some((Found { entry: Entry::Close { members: members.set }, sound: members.sound }, rest))
+            Some((
+                Found {
+                    entry: Entry::Close {
+                        members: members.set,
+                    },
+                    sound: members.sound,
+                },
+                rest,
+            ))
         }
         0 | 3..=255 => None,
     }

@@ -1,8 +1,8 @@
 // Entries written as bytes.
 ghost use Rattle.bytes.specs.Bytes.{fourBytes, placed, placedAt, twoBytes};
-ghost use Rattle.entry.specs.Entry.{askBytes, callBytes, closeBytes, entryBytes};
+ghost use Rattle.entry.specs.Entry.{callBytes, closeBytes, entryBytes};
 ghost use lib.ListN.{length};
-ghost use mathlib.Core.List.{[], _++_, _∷_};
+ghost use mathlib.Core.List.{_++_, _∷_};
 ghost use mathlib.Core.Path.{_≡_};
 use crate::entry::Entry;
 use crate::members::list_members;
@@ -20,7 +20,21 @@ fn amount_bytes(client: u8, number: u32, kind: u8, key: u16, amount: u32) -> [u8
     let n = u32_bytes(number);
     let k = u16_bytes(key);
     let a = u32_bytes(amount);
-    [1, client, n[0], n[1], n[2], n[3], kind, k[0], k[1], a[0], a[1], a[2], a[3]]
+    [
+        1,
+        client,
+        n[0],
+        n[1],
+        n[2],
+        n[3],
+        kind,
+        k[0],
+        k[1],
+        a[0],
+        a[1],
+        a[2],
+        a[3],
+    ]
 }
 
 // A look.
@@ -50,7 +64,12 @@ fn write_close(members: u16, out: &mut [u8], at: usize) -> Option<usize>
     ensures bytes { λ _. ⌜ now (out .exit) ≡ placedAt (now (out .entry)) at (closeBytes members) ⌝ }
 {
     let listing = list_members(members);
-    put_both(out, at, &[2, listing.len as u8], &listing.stations[0..listing.len])
+    put_both(
+        out,
+        at,
+        &[2, listing.len as u8],
+        &listing.stations[0..listing.len],
+    )
 }
 
 // Writes an entry into `out` from `at` on, and says where it ends.

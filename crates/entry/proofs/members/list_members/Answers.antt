@@ -6,9 +6,11 @@ use lib.ListN.{length}
 use mathlib.Core.Path.{_∙_, ap, sym}
 
 pub loop-station-again : need.loop-station-again
-loop-station-again c =
-    (listing-more (c .loop-station .listing) (c .list-next-listing .result) (c .loop-station .station) (c .loop-station .left) _ (c .loop-station-test .taken) (search needs) (c .list-next-listing .ensures) (c .loop-station .inv .0),
-      search needs, search needs)
+loop-station-again c = (
+  listing-more (c .loop-station .listing) (c .list-next-listing .result) (c .loop-station .station) (c .loop-station .left) _ (c .loop-station-test .taken) (search needs) (c .list-next-listing .ensures) (c .loop-station .inv .0),
+  search needs,
+  search needs,
+)
 
 pub returns : need.returns
 returns c =

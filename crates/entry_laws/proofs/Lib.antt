@@ -1,0 +1,4 @@
+mod Asking
+mod Shapes
+mod Sets
+mod Entries
