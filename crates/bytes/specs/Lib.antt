@@ -1,2 +1,4 @@
 pub mod Bytes
 pub mod Exact
+pub mod Fault
+pub mod Times

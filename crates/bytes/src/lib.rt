@@ -5,6 +5,10 @@ ghost use lib.ListN.{length};
 ghost use mathlib.Core.List.{_++_};
 ghost use mathlib.Core.Path.{_≡_};
 
+mod fault;
+
+pub use fault::Fault;
+
 // One byte, and the bytes behind it.
 pub fn read_u8(bytes: &[u8]) -> Option<(u8, &[u8])>
     ensures { λ r. ⌜ seen r ≡ one (now (bytes .entry)) ⌝ }

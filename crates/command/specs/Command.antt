@@ -11,8 +11,8 @@ use Rattle.std.specs.declared.result.Result.the-variants.{Ok, Err}
 use Rattle.std.specs.shelf.Text.{sameBytes}
 use Rattle.command.specs.declared.parse.Command.{Command}
 use Rattle.command.specs.declared.parse.Command.the-variants.{Do, Show}
-use Rattle.command.specs.declared.fault.Fault.{Fault}
-use Rattle.command.specs.declared.fault.Fault.the-variants.{Malformed, OutOfRange}
+use Rattle.bytes.specs.declared.fault.Fault.{Fault}
+use Rattle.bytes.specs.declared.fault.Fault.the-variants.{Malformed, OutOfRange}
 use Rattle.store.specs.Ask.{keyOf}
 use Rattle.store.specs.declared.ask.Ask.{Ask}
 use Rattle.store.specs.declared.ask.Ask.the-variants.{Put, Take, Look}

@@ -3,7 +3,7 @@ ghost use Rattle.command.specs.Command.{askOf, commandOf, ended, fieldOf, requ
 ghost use Prim.Native.Nat.{_≤_};
 ghost use Rattle.std.specs.Vec.{made};
 ghost use mathlib.Core.Path.{_≡_};
-use crate::fault::Fault;
+use bytes::Fault;
 use store::Ask;
 use store::Request;
 use text::is_text;

@@ -1,6 +1,6 @@
 -- A line leaves what its request, if it commands one, makes of the store.
 use Rattle.command.specs.Command.{commandOf}
-use Rattle.command.specs.declared.fault.Fault.{Fault}
+use Rattle.bytes.specs.declared.fault.Fault.{Fault}
 use Rattle.command.specs.declared.parse.Command.{Command}
 use Rattle.command.specs.declared.parse.Command.the-variants.{Do, Show}
 use Rattle.script.specs.Laws.{OnlyRequests, asked, requests}

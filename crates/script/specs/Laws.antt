@@ -6,7 +6,7 @@ use Prim.Native.Nat.{ℕ}
 use Rattle.std.specs.declared.result.Result.{Result}
 use Rattle.std.specs.declared.result.Result.the-variants.{Ok, Err}
 use Rattle.command.specs.Command.{commandOf}
-use Rattle.command.specs.declared.fault.Fault.{Fault}
+use Rattle.bytes.specs.declared.fault.Fault.{Fault}
 use Rattle.command.specs.declared.parse.Command.{Command}
 use Rattle.command.specs.declared.parse.Command.the-variants.{Do, Show}
 use Rattle.script.specs.Rehearsal.{after, isPassed}

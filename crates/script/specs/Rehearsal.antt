@@ -8,12 +8,12 @@ use Rattle.std.specs.declared.result.Result.{Result}
 use Rattle.std.specs.declared.result.Result.the-variants.{Ok, Err}
 use Rattle.script.specs.Answer.{lineText, storeText}
 use Rattle.command.specs.Command.{commandOf, ended}
-use Rattle.command.specs.Fault as faults
+use Rattle.bytes.specs.Fault as faults
 use Rattle.script.specs.declared.answer.Answer.{Answer}
 use Rattle.script.specs.declared.answer.Answer.the-variants as answers
 use Rattle.command.specs.declared.parse.Command.{Command}
 use Rattle.command.specs.declared.parse.Command.the-variants.{Do, Show}
-use Rattle.command.specs.declared.fault.Fault.{Fault}
+use Rattle.bytes.specs.declared.fault.Fault.{Fault}
 use Rattle.store.specs.Refusal as refusals
 use Rattle.store.specs.Store.{Store, bare, outcome, applied}
 use Rattle.store.specs.declared.refusal.Refusal.{Refusal}

@@ -1,12 +1,12 @@
-// What is wrong with a line of a script.
-ghost use Rattle.command.specs.Fault.{numberOf};
+// What is wrong with an input, bytes or text.
+ghost use Rattle.bytes.specs.Fault.{numberOf};
 ghost use mathlib.Core.Path.{_≡_};
 
 #[derive(Clone, Copy, PartialEq, Eq, Debug)]
 pub enum Fault {
-    // a word is missing, too many, unknown, no number, or too large for its field
+    // its form: cut short, too long, an unknown kind or word, no number, a number or count above its limit
     Malformed,
-    // a number that fits its field and names nothing
+    // its range: of the right form, and it names nothing
     OutOfRange,
 }
 
