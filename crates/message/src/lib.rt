@@ -1,0 +1,13 @@
+// Messages between stations, as bytes.
+
+mod entries;
+mod head;
+mod read;
+mod write;
+
+pub use entries::judge_entries;
+pub use head::Message;
+pub use read::LOG;
+pub use read::judge;
+pub use write::write_ask;
+pub use write::write_took;
