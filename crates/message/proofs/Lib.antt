@@ -1,1 +1,2 @@
 mod Unknowns
+mod Lockstep

@@ -6,6 +6,7 @@ mod read;
 mod write;
 
 pub use entries::judge_entries;
+pub use entries::read_entries;
 pub use head::Message;
 pub use read::LOG;
 pub use read::judge;
