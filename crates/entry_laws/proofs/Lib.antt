@@ -2,3 +2,4 @@ mod Asking
 mod Shapes
 mod Sets
 mod Entries
+mod Rising

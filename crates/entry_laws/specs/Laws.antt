@@ -1,11 +1,14 @@
 -- Reading and writing entries fit each other.
-use mathlib.Core.Bool.{cond}
-use mathlib.Core.List.{List}
-use Prim.Native.Nat.{ℕ, _<_, _≤_, _^_}
+use mathlib.Core.Bool.{Bool, _&&_, cond, not, true}
+use mathlib.Core.List.{List, [], _∷_}
+use mathlib.Core.Path.{_≡_}
+use Prim.Native.Nat.{ℕ, _+_, _<_, _≤_, _^_}
+use lib.Dec.{eqb, leb, ltb}
 use lib.ListN.{length}
 use Rattle.bytes.specs.Bytes.{Read, _then_}
 use Rattle.bytes.specs.Exact.{Bytes, Exact}
 use Rattle.entry.specs.Entry.{Raw, Asks, Names, entryBytes, entryOf, rawBytes, rawOf}
+use Rattle.entry.specs.Members.{membersIn}
 use Rattle.entry.specs.declared.entry.Entry.{Entry}
 use Rattle.entry.specs.declared.entry.Entry.the-variants.{Call, Close}
 use Rattle.std.specs.declared.option.Option.the-variants.{None, Some}
@@ -46,3 +49,12 @@ accepted bs = entryOf bs then λ f bs. cond (f .sound) (Some (f .entry, bs)) Non
 -- Every entry is read back as it was written, and is accepted in one form only: the bytes that are written of it.
 abbrev pub Entries : Type 0
 Entries = Exact accepted entryBytes EntryFits
+
+-- stations, each above the one before, the first at least i
+abbrev pub rising : ℕ → List ℕ → Bool
+rising i [] = true
+rising i (m ∷ ms) = leb i m && (ltb m 16 && rising (m + 1) ms)
+
+-- A list of members is in range just if it is rising stations, and one at least.
+abbrev pub Councils : Type 0
+Councils = (ms : List ℕ) → membersIn ms .sound ≡ (rising 0 ms && not (eqb (length ms) 0))
