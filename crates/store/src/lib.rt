@@ -10,3 +10,4 @@ pub use request::CLIENTS;
 pub use request::Request;
 pub use request::SHELVES;
 pub use request::apply_all;
+pub use request::is_whole;

@@ -57,7 +57,7 @@ impl Request {
 }
 
 // Whether the slices are the tables of a store: a word for each shelf, two for each client.
-fn is_whole(shelves: &[u32], lasts: &[u32], words: &[u32]) -> bool
+pub fn is_whole(shelves: &[u32], lasts: &[u32], words: &[u32]) -> bool
     ensures { λ r. ⌜ r ≡ whole (lent (shelves .entry) (lasts .entry) (words .entry)) ⌝ }
 {
     shelves.len() == SHELVES && lasts.len() == CLIENTS && words.len() == CLIENTS

@@ -1,0 +1,13 @@
+use Rattle.page.proofs.Walks.{judging, walk}
+use Rattle.page.proofs.judge.walk_shelves.Given as given
+use Rattle.page.specs.Rows.{isNextShelf, shelfOf}
+use Rattle.page.specs.declared.rows.Shelf.{Shelf}
+use mathlib.Core.Bool.{true}
+use mathlib.Core.Path.{_≡_}
+
+-- the rows left find what all find from the start
+abbrev pub Inv-loop-left : given.InvT-loop-left
+Inv-loop-left l = walk shelfOf (judging isNextShelf (λ (row : Shelf). row .key)) (l .left) (l .next, l .sound) (l .rest) ≡ walk shelfOf (judging isNextShelf (λ (row : Shelf). row .key)) (l .count) (0, true) (l .bytes)
+
+abbrev pub μ-loop-left : given.MeasureT-loop-left
+μ-loop-left l = l .left
