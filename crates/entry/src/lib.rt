@@ -12,4 +12,5 @@ pub use members::list_members;
 pub use members::read_members;
 pub use read::Found;
 pub use read::read_entry;
+pub use write::entry_size;
 pub use write::write_entry;

@@ -1,4 +1,5 @@
 // Entries written as bytes.
+ghost use Prim.Native.Nat.{_≤_};
 ghost use Rattle.bytes.specs.Bytes.{fourBytes, placed, placedAt, twoBytes};
 ghost use Rattle.entry.specs.Entry.{callBytes, closeBytes, entryBytes};
 ghost use lib.ListN.{length};
@@ -81,5 +82,19 @@ pub fn write_entry(entry: Entry, out: &mut [u8], at: usize) -> Option<usize>
     match entry {
         Entry::Call(request) => write_call(request, out, at),
         Entry::Close { members } => write_close(members, out, at),
+    }
+}
+
+// How many bytes an entry takes.
+pub fn entry_size(entry: Entry) -> usize
+    ensures size { λ r. ⌜ r ≡ length (entryBytes entry) ⌝ }
+    ensures bound { λ r. ⌜ r ≤ 18 ⌝ }
+{
+    match entry {
+        Entry::Call(request) => match request.ask {
+            Ask::Put { .. } | Ask::Take { .. } => 13,
+            Ask::Look { .. } => 9,
+        },
+        Entry::Close { members } => 2 + list_members(members).len,
     }
 }

@@ -1,2 +1,3 @@
 mod Unknowns
 mod Lockstep
+mod Rooms

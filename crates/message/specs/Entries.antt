@@ -1,13 +1,13 @@
 -- Entries one behind the other, in bytes.
 use mathlib.Core.Bool.{Bool, _&&_, cond, true}
-use mathlib.Core.List.{List}
+use mathlib.Core.List.{List, [], _++_, _∷_}
 use Prim.Native.Nat.{ℕ, _+_}
 use denote.Ref.{RefT}
 use lib.Dec.{ltb}
 use lib.ListN.{length, set}
 use Rattle.bytes.specs.Bytes.{Read, _then_}
 use Rattle.bytes.specs.Times.{times}
-use Rattle.entry.specs.Entry.{entryOf}
+use Rattle.entry.specs.Entry.{entryBytes, entryOf}
 use Rattle.entry.specs.declared.entry.Entry.{Entry}
 use Rattle.entry.specs.declared.read.Found.{Found}
 use Rattle.std.specs.declared.option.Option.{Option}
@@ -66,3 +66,8 @@ readRest n log bs = cond (ltb (length log) n) None (restOf (filledOf n log bs))
 abbrev pub seenRest : Option (RefT (List ℕ)) → Option (List ℕ)
 seenRest None = None
 seenRest (Some rest) = Some (rest .now)
+
+-- the bytes of some entries
+unfoldable pub entriesBytes : List Entry → List ℕ
+entriesBytes [] = []
+entriesBytes (e ∷ es) = entryBytes e ++ entriesBytes es

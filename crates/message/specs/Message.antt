@@ -7,10 +7,13 @@ use lib.ListN.{length}
 use Rattle.bytes.specs.Bytes.{Read, _then_, four, fourBytes, one, two, twoBytes}
 use Rattle.bytes.specs.declared.fault.Fault.{Fault}
 use Rattle.bytes.specs.declared.fault.Fault.the-variants.{Malformed, OutOfRange}
-use Rattle.message.specs.Entries.{judgedOf}
+use Rattle.message.specs.Entries.{entriesBytes, judgedOf}
+use Rattle.entry.specs.Members.{membersOf}
+use Rattle.entry.specs.declared.entry.Entry.{Entry}
+use Rattle.page.specs.Page.{pageOf}
 use Rattle.message.specs.declared.head.Judged.{Judged}
 use Rattle.message.specs.declared.head.Message.{Message}
-use Rattle.message.specs.declared.head.Message.the-variants.{Ask, Part, Promise, Took}
+use Rattle.message.specs.declared.head.Message.the-variants.{Ask, Begin, Part, Promise, Took}
 use Rattle.std.specs.declared.option.Option.the-variants.{None, Some}
 use Rattle.std.specs.declared.result.Result.{Result}
 use Rattle.std.specs.declared.result.Result.the-variants.{Err, Ok}
@@ -39,10 +42,16 @@ tookOf bs =
     two bs then λ term bs. four bs then λ ballot bs. one bs then λ from bs. two bs then λ count bs.
     cond (ltb 4096 count) None (Some (record { message = Took term ballot from count; sound = ltb 0 ballot && ltb from 16 }, bs))
 
--- by the kind: ask 3, promise 4, log part 5, took 6
+-- term, members as in a close, page; a council, and a page in range
+abbrev pub beginOf : List ℕ → Read Judged
+beginOf bs =
+    two bs then λ term bs. membersOf bs then λ ms bs. pageOf bs then λ p bs.
+    Some (record { message = Begin term (ms .set) (p .before); sound = ms .sound && p .sound }, bs)
+
+-- by the kind: ask 3, promise 4, log part 5, took 6, begin 7
 abbrev pub kindOf : ℕ → List ℕ → Read Judged
 kindOf kind bs =
-    cond (eqb kind 3) (askOf bs) (cond (eqb kind 4) (promiseOf bs) (cond (eqb kind 5) (partOf bs) (cond (eqb kind 6) (tookOf bs) None)))
+    cond (eqb kind 3) (askOf bs) (cond (eqb kind 4) (promiseOf bs) (cond (eqb kind 5) (partOf bs) (cond (eqb kind 6) (tookOf bs) (cond (eqb kind 7) (beginOf bs) None))))
 
 abbrev pub messageOf : List ℕ → Read Judged
 messageOf bs = one bs then λ kind bs. kindOf kind bs
@@ -61,3 +70,15 @@ askBytes term ballot = 3 ∷ (twoBytes term ++ fourBytes ballot)
 
 abbrev pub tookBytes : ℕ → ℕ → ℕ → ℕ → List ℕ
 tookBytes term ballot from count = 6 ∷ (twoBytes term ++ (fourBytes ballot ++ (from ∷ twoBytes count)))
+
+-- something where n entries fit into a log, else another
+abbrev pub fitting : {A : Type 0} → ℕ → A → A → A
+fitting n fits other = cond (ltb 4096 n) other fits
+
+-- the bytes of a promise and of a log part
+abbrev pub promiseBytes : ℕ → ℕ → ℕ → ℕ → List Entry → List ℕ
+promiseBytes term ballot from had es =
+    (4 ∷ (twoBytes term ++ (fourBytes ballot ++ (from ∷ (fourBytes had ++ twoBytes (length es)))))) ++ entriesBytes es
+
+abbrev pub partBytes : ℕ → ℕ → ℕ → List Entry → List ℕ
+partBytes term ballot place es = (5 ∷ (twoBytes term ++ (fourBytes ballot ++ (twoBytes place ++ twoBytes (length es))))) ++ entriesBytes es

@@ -1,4 +1,4 @@
-// What stands in a message before its entries.
+// What stands in a message besides its entries and its page.
 #[derive(Clone, Copy)]
 pub enum Message {
     // a station asks to lead a ballot
@@ -27,6 +27,12 @@ pub enum Message {
         ballot: u32,
         from: u8,
         count: u16,
+    },
+    // a council begins: its members, and how many entries all councils before had
+    Begin {
+        term: u16,
+        members: u16,
+        before: u32,
     },
 }
 

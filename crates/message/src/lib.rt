@@ -4,6 +4,7 @@ mod entries;
 mod head;
 mod read;
 mod write;
+mod write_entries;
 
 pub use entries::judge_entries;
 pub use entries::read_entries;
@@ -11,4 +12,6 @@ pub use head::Message;
 pub use read::LOG;
 pub use read::judge;
 pub use write::write_ask;
+pub use write::write_part;
+pub use write::write_promise;
 pub use write::write_took;

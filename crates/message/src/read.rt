@@ -1,6 +1,6 @@
 // A message judged whole: its form to its last byte, then its range.
 ghost use Rattle.bytes.specs.Bytes.{seen};
-ghost use Rattle.message.specs.Message.{askOf, judgedIn, messageOf, partOf, promiseOf, tookOf};
+ghost use Rattle.message.specs.Message.{askOf, beginOf, judgedIn, messageOf, partOf, promiseOf, tookOf};
 ghost use mathlib.Core.Path.{_≡_};
 use crate::entries::judge_entries;
 use crate::head::Judged;
@@ -9,6 +9,8 @@ use bytes::Fault;
 use bytes::read_u8;
 use bytes::read_u16;
 use bytes::read_u32;
+use entry::read_members;
+use page::judge_page;
 
 // The most entries that a log has.
 pub const LOG: u16 = 4096;
@@ -106,6 +108,26 @@ fn read_took(bytes: &[u8]) -> Option<(Judged, &[u8])>
     ))
 }
 
+fn read_begin(bytes: &[u8]) -> Option<(Judged, &[u8])>
+    ensures { λ r. ⌜ seen r ≡ beginOf (now (bytes .entry)) ⌝ }
+{
+    let (term, rest) = read_u16(bytes)?;
+    let (members, rest) = read_members(rest)?;
+    let (page, rest) = judge_page(rest)?;
+    let message = Message::Begin {
+        term,
+        members: members.set,
+        before: page.before,
+    };
+    Some((
+        Judged {
+            message,
+            sound: members.sound & page.sound,
+        },
+        rest,
+    ))
+}
+
 // The message at the front of some bytes, by its kind, and the bytes behind it.
 fn read_message(bytes: &[u8]) -> Option<(Judged, &[u8])>
     ensures { λ r. ⌜ seen r ≡ messageOf (now (bytes .entry)) ⌝ }
@@ -116,11 +138,12 @@ fn read_message(bytes: &[u8]) -> Option<(Judged, &[u8])>
         4 => read_promise(rest),
         5 => read_part(rest),
         6 => read_took(rest),
-        0..=2 | 7..=255 => None,
+        7 => read_begin(rest),
+        0..=2 | 8..=255 => None,
     }
 }
 
-// What stands in a message before its entries, or what is wrong with the message, its form before its range.
+// What stands in a message besides its entries and its page, or what is wrong with the message, its form before its range.
 pub fn judge(bytes: &[u8]) -> Result<Message, Fault>
     ensures { λ r. ⌜ r ≡ judgedIn (now (bytes .entry)) ⌝ }
 {
