@@ -1,4 +1,5 @@
 // The commands of a script, read from its lines.
+#![tactic(auto)]
 
 mod parse;
 

@@ -1,4 +1,6 @@
 // The theorems of the protocol, over every run of the rules in `specs/`. Each function is there for its contract.
+#![tactic(auto)]
+
 ghost use Rattle.council.specs.Promises.{Carried, EachOnce, Grows, KeepsWord, Lively, Main, NextCouncil, OneBallot, Part, SameCouncil, SameWord, TookSent};
 
 // Of what any two stations know, at one moment or at two, one is a beginning of the other.

@@ -1,4 +1,5 @@
 // Entries one behind the other: from bytes into a log, and into bytes.
+#![tactic(auto)]
 
 mod reading;
 mod writing;

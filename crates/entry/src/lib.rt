@@ -1,4 +1,5 @@
 // Entries of a log, as bytes.
+#![tactic(auto)]
 
 mod entry;
 mod members;

@@ -1,5 +1,7 @@
 // The laws of entries in bytes. Each function is there for its contract, a theorem of `specs/`;
 // the definitions are those that the contracts of `entry` equate the code with.
+#![tactic(auto)]
+
 ghost use Rattle.entry_laws.specs.Laws.{Councils, Entries, Forms};
 
 pub fn forms_are_exact() -> u8

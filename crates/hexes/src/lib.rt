@@ -1,4 +1,6 @@
 // Bytes written in a text: two digits for each, the high one first.
+#![tactic(auto)]
+
 ghost use Rattle.std.specs.Prelude.{◌≡◌, ◌<◌, IfSome, IfOk, vec_items};
 ghost use Rattle.wire.specs.Bytes.{seen};
 ghost use Rattle.hexes.specs.Hex.{digit_of, hex_of, pair_of};

@@ -1,4 +1,5 @@
 // Messages between stations, as bytes.
+#![tactic(auto)]
 
 mod head;
 mod heads;

@@ -20,7 +20,7 @@ pub enum Unread {
 
 // Whether there is room for what a message brings.
 fn has_room(message: Message, log: &[Entry], shelves: &[u32], lasts: &[u32], words: &[u32]) -> bool
-    ensures { result ≡ has_room message log.now (lent shelves.entry lasts.entry words.entry) }
+    ensures { result ≡ has_room message log.now (lent shelves.now lasts.now words.now) }
 {
     match message {
         Message::Ask { .. } | Message::Took { .. } => true,
@@ -41,9 +41,9 @@ fn load(
     lasts: &mut [u32],
     words: &mut [u32],
 )
-    requires { has_room message log.old (lent shelves lasts words) ≡ true }
+    requires { has_room message log.old (lent shelves.old lasts.old words.old) ≡ true }
     ensures log { log.new ≡ log_with message body.now log.old }
-    ensures store { lent shelves.exit lasts.exit words.exit ≡ store_with message body.now (lent shelves.entry lasts.entry words.entry) }
+    ensures store { lent shelves.new lasts.new words.new ≡ store_with message body.now (lent shelves.old lasts.old words.old) }
 {
     match message {
         Message::Ask { .. } | Message::Took { .. } => {}
@@ -68,9 +68,9 @@ pub fn read(
     lasts: &mut [u32],
     words: &mut [u32],
 ) -> Result<Message, Unread>
-    ensures head { result ≡ read_in bytes.now log.old (lent shelves.entry lasts.entry words.entry) }
-    ensures log { log.new ≡ log_after bytes.now log.old (lent shelves.entry lasts.entry words.entry) }
-    ensures store { lent shelves.exit lasts.exit words.exit ≡ store_after bytes.now log.old (lent shelves.entry lasts.entry words.entry) }
+    ensures head { result ≡ read_in bytes.now log.old (lent shelves.old lasts.old words.old) }
+    ensures log { log.new ≡ log_after bytes.now log.old (lent shelves.old lasts.old words.old) }
+    ensures store { lent shelves.new lasts.new words.new ≡ store_after bytes.now log.old (lent shelves.old lasts.old words.old) }
 {
     match open(bytes) {
         Ok((message, body)) => {

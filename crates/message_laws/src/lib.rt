@@ -1,5 +1,7 @@
 // The laws of messages in bytes. Each function is there for its contract, a theorem of `specs/`;
 // the definitions are those that the contracts of `message` equate the code with.
+#![tactic(auto)]
+
 ghost use Rattle.message_laws.specs.Laws.{Letters, Reads, Refusals};
 
 pub fn letters_are_exact() -> u8

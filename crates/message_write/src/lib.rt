@@ -1,4 +1,6 @@
 // Messages written as bytes.
+#![tactic(auto)]
+
 ghost use Rattle.std.specs.Prelude.{◌≡◌, ◌+◌, length, if◌then◌else◌, None};
 ghost use Rattle.wire.specs.Bytes.{placed, placed_at};
 ghost use Rattle.entries.specs.Entries.{fitting};
@@ -105,8 +107,8 @@ pub fn write_begin(
     out: &mut [u8],
     at: usize,
 ) -> Option<usize>
-    ensures end { result ≡ (if whole (lent shelves.entry lasts.entry words.entry) then placed (length out.old) at (length (begin_bytes term members before (lent shelves.entry lasts.entry words.entry))) else None) }
-    ensures bytes { out.new ≡ (if whole (lent shelves.entry lasts.entry words.entry) then placed_at out.old at (begin_bytes term members before (lent shelves.entry lasts.entry words.entry)) else out.old) }
+    ensures end { result ≡ (if whole (lent shelves.now lasts.now words.now) then placed (length out.old) at (length (begin_bytes term members before (lent shelves.now lasts.now words.now))) else None) }
+    ensures bytes { out.new ≡ (if whole (lent shelves.now lasts.now words.now) then placed_at out.old at (begin_bytes term members before (lent shelves.now lasts.now words.now)) else out.old) }
 {
     let t = u16_bytes(term);
     let listing = list_members(members);

@@ -61,7 +61,7 @@ fn fill_tables<'a>(
     lasts: &mut [u32],
     words: &mut [u32],
 ) -> Option<&'a [u8]>
-    ensures { left_with result (lent shelves.exit lasts.exit words.exit) ≡ made (with_rows (lent shelves.entry lasts.entry words.entry)) (raw_page_of bytes.now) }
+    ensures { left_with result (lent shelves.new lasts.new words.new) ≡ made (with_rows (lent shelves.old lasts.old words.old)) (raw_page_of bytes.now) }
 {
     let (_, rest) = read_u32(bytes)?;
     let (count, rest) = read_count(rest, 1024)?;
@@ -90,8 +90,8 @@ pub fn load_page<'a>(
     lasts: &mut [u32],
     words: &mut [u32],
 ) -> Option<&'a [u8]>
-    ensures rest { seen_rest result ≡ (if whole (lent shelves.entry lasts.entry words.entry) then rest_of (raw_page_of bytes.now) else None) }
-    ensures store { lent shelves.exit lasts.exit words.exit ≡ loaded (lent shelves.entry lasts.entry words.entry) (raw_page_of bytes.now) }
+    ensures rest { seen_rest result ≡ (if whole (lent shelves.old lasts.old words.old) then rest_of (raw_page_of bytes.now) else None) }
+    ensures store { lent shelves.new lasts.new words.new ≡ loaded (lent shelves.old lasts.old words.old) (raw_page_of bytes.now) }
 {
     if !is_whole(shelves, lasts, words) {
         return None;

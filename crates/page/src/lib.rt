@@ -1,4 +1,5 @@
 // A store as bytes: a page.
+#![tactic(auto)]
 
 mod fill;
 mod judge;

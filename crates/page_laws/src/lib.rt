@@ -1,5 +1,7 @@
 // The laws of pages. Each function is there for its contract, a theorem of `specs/`;
 // the definitions are those that the contracts of `page` and `store` equate the code with.
+#![tactic(auto)]
+
 ghost use Rattle.page_laws.specs.Laws.{Loads, PageForms, Pages, Reached};
 
 pub fn page_forms_are_exact() -> u8

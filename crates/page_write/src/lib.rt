@@ -1,4 +1,6 @@
 // A store written as a page.
+#![tactic(auto)]
+
 ghost use Rattle.std.specs.Prelude.{◌≡◌, ◌+◌, ◌≤◌, length};
 ghost use Rattle.wire.specs.Bytes.{placed_at};
 ghost use Rattle.page.specs.Page.{page_at, page_bytes, page_end, page_size};
@@ -127,9 +129,9 @@ fn put_page(
     requires keys { length shelves.now ≤ 1024 }
     requires clients { length lasts.now ≤ 256 }
     requires words { length words.now ≡ length lasts.now }
-    requires room { at + length (page_bytes before (lent shelves lasts words)) ≤ length out.old }
-    ensures end { result ≡ at + length (page_bytes before (lent shelves.entry lasts.entry words.entry)) }
-    ensures bytes { out.new ≡ placed_at out.old at (page_bytes before (lent shelves.entry lasts.entry words.entry)) }
+    requires room { at + length (page_bytes before (lent shelves.now lasts.now words.now)) ≤ length out.old }
+    ensures end { result ≡ at + length (page_bytes before (lent shelves.now lasts.now words.now)) }
+    ensures bytes { out.new ≡ placed_at out.old at (page_bytes before (lent shelves.now lasts.now words.now)) }
 {
     let next = put_part(out, at, &u32_bytes(before));
     let next = put_shelves(out, next, shelves);
@@ -155,8 +157,8 @@ pub fn write_page(
     out: &mut [u8],
     at: usize,
 ) -> Option<usize>
-    ensures end { result ≡ page_end (length out.old) at before (lent shelves.entry lasts.entry words.entry) }
-    ensures bytes { out.new ≡ page_at out.old at before (lent shelves.entry lasts.entry words.entry) }
+    ensures end { result ≡ page_end (length out.old) at before (lent shelves.now lasts.now words.now) }
+    ensures bytes { out.new ≡ page_at out.old at before (lent shelves.now lasts.now words.now) }
 {
     if !is_whole(shelves, lasts, words) {
         return None;

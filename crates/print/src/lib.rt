@@ -1,4 +1,5 @@
 // What a rehearsal prints: text behind the text that was printed before.
+#![tactic(auto)]
 
 mod answer;
 mod entries;

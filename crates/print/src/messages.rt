@@ -117,7 +117,7 @@ fn push_body(
     lasts: &[u32],
     words: &[u32],
 ) -> Result<(), AllocError>
-    ensures { OnOk result (string_bytes out.new ≡ string_bytes out.old ++ body_text message log.now (lent shelves.entry lasts.entry words.entry)) }
+    ensures { OnOk result (string_bytes out.new ≡ string_bytes out.old ++ body_text message log.now (lent shelves.now lasts.now words.now)) }
 {
     match message {
         Message::Ask { .. } | Message::Took { .. } => Ok(()),
@@ -146,7 +146,7 @@ pub fn push_message(
     lasts: &[u32],
     words: &[u32],
 ) -> Result<(), AllocError>
-    ensures { OnOk result (string_bytes out.new ≡ string_bytes out.old ++ message_text line message log.now (lent shelves.entry lasts.entry words.entry)) }
+    ensures { OnOk result (string_bytes out.new ≡ string_bytes out.old ++ message_text line message log.now (lent shelves.now lasts.now words.now)) }
 {
     out.push_str(format!(in heap; "{line} ")?.as_str())?;
     push_head(heap, out, message)?;

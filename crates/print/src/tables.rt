@@ -74,7 +74,7 @@ pub fn push_store(
     lasts: &[u32],
     words: &[u32],
 ) -> Result<(), AllocError>
-    ensures { OnOk result (string_bytes out.new ≡ string_bytes out.old ++ store_text (lent shelves.entry lasts.entry words.entry)) }
+    ensures { OnOk result (string_bytes out.new ≡ string_bytes out.old ++ store_text (lent shelves.now lasts.now words.now)) }
 {
     push_shelves(heap, out, shelves)?;
     push_clients(heap, out, lasts, words)

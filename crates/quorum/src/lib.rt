@@ -1,4 +1,5 @@
 // Quorums: sets of stations as bits, and what each member said it took.
+#![tactic(auto)]
 
 mod sets;
 mod tally;

@@ -1,4 +1,6 @@
 // Plays the script on standard input, and prints what it prints.
+#![tactic(auto)]
+
 use std::io::{Read, Write};
 
 fn run(rt: &HostRuntime) -> anyhow::Result<()> {

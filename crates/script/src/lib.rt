@@ -1,4 +1,5 @@
 // A script played from its first line to its last: text in, text out.
+#![tactic(auto)]
 
 mod reading;
 mod rehearsal;

@@ -34,8 +34,8 @@ fn carry_out(
     lasts: &mut [u32],
     words: &mut [u32],
 ) -> Answer
-    ensures answer { result ≡ answered command (lent shelves.entry lasts.entry words.entry) }
-    ensures store { lent shelves.exit lasts.exit words.exit ≡ turned command (lent shelves.entry lasts.entry words.entry) }
+    ensures answer { result ≡ answered command (lent shelves.old lasts.old words.old) }
+    ensures store { lent shelves.new lasts.new words.new ≡ turned command (lent shelves.old lasts.old words.old) }
 {
     match command {
         Ok(Command::Do(request)) => match request.apply(shelves, lasts, words) {
@@ -57,7 +57,7 @@ fn push_reply(
     lasts: &[u32],
     words: &[u32],
 ) -> Result<(), AllocError>
-    ensures { OnOk result (string_bytes out.new ≡ string_bytes out.old ++ reply_text number answer (lent shelves.entry lasts.entry words.entry)) }
+    ensures { OnOk result (string_bytes out.new ≡ string_bytes out.old ++ reply_text number answer (lent shelves.now lasts.now words.now)) }
 {
     push_answer(heap, out, number, answer)?;
     match answer {
@@ -76,8 +76,8 @@ fn play(
     lasts: &mut [u32],
     words: &mut [u32],
 ) -> Result<(), AllocError>
-    ensures store { lent shelves.exit lasts.exit words.exit ≡ after line.now (lent shelves.entry lasts.entry words.entry) }
-    ensures text { OnOk result (string_bytes out.new ≡ string_bytes out.old ++ printed number line.now (lent shelves.entry lasts.entry words.entry)) }
+    ensures store { lent shelves.new lasts.new words.new ≡ after line.now (lent shelves.old lasts.old words.old) }
+    ensures text { OnOk result (string_bytes out.new ≡ string_bytes out.old ++ printed number line.now (lent shelves.old lasts.old words.old)) }
 {
     if is_passed_over(line) {
         return Ok(());
@@ -98,7 +98,7 @@ fn play_all(
     lasts: &mut [u32],
     words: &mut [u32],
 ) -> Result<String, AllocError>
-    ensures { IfOk result (λ out. string_bytes out ≡ transcript 1 (lent shelves.entry lasts.entry words.entry) (lines script.now)) }
+    ensures { IfOk result (λ out. string_bytes out ≡ transcript 1 (lent shelves.old lasts.old words.old) (lines script.now)) }
 {
     let mut out = String::new(heap);
     let mut rest = script;

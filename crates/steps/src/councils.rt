@@ -20,8 +20,8 @@ fn copy_store(
     new_lasts: &mut [u32],
     new_words: &mut [u32],
 )
-    requires { (whole (lent shelves lasts words) ≡ true) × (whole (lent new_shelves new_lasts new_words) ≡ true) }
-    ensures { lent new_shelves.exit new_lasts.exit new_words.exit ≡ lent shelves.entry lasts.entry words.entry }
+    requires { (whole (lent shelves.now lasts.now words.now) ≡ true) × (whole (lent new_shelves.old new_lasts.old new_words.old) ≡ true) }
+    ensures { lent new_shelves.new new_lasts.new new_words.new ≡ lent shelves.now lasts.now words.now }
 {
     new_shelves.copy_from_slice(shelves);
     new_lasts.copy_from_slice(lasts);
@@ -87,8 +87,8 @@ impl Head {
         lasts: &[u32],
         words: &[u32],
     ) -> Result<Head, Refusal>
-        ensures value { result ≡ closed_in log.now (lent base_shelves.entry base_lasts.entry base_words.entry) (lent shelves.entry lasts.entry words.entry) self }
-        ensures base { lent base_shelves.exit base_lasts.exit base_words.exit ≡ store_after result (lent shelves.entry lasts.entry words.entry) (lent base_shelves.entry base_lasts.entry base_words.entry) }
+        ensures value { result ≡ closed_in log.now (lent base_shelves.old base_lasts.old base_words.old) (lent shelves.now lasts.now words.now) self }
+        ensures base { lent base_shelves.new base_lasts.new base_words.new ≡ store_after result (lent shelves.now lasts.now words.now) (lent base_shelves.old base_lasts.old base_words.old) }
     {
         if !self.fits_log(log.len())
             || !is_whole(base_shelves, base_lasts, base_words)
@@ -123,9 +123,9 @@ impl Head {
         lasts: &mut [u32],
         words: &mut [u32],
     ) -> Result<Head, Refusal>
-        ensures value { result ≡ begun_in term members before (lent page_shelves.entry page_lasts.entry page_words.entry) (lent base_shelves.entry base_lasts.entry base_words.entry) (lent shelves.entry lasts.entry words.entry) self }
-        ensures base { lent base_shelves.exit base_lasts.exit base_words.exit ≡ store_after result (lent page_shelves.entry page_lasts.entry page_words.entry) (lent base_shelves.entry base_lasts.entry base_words.entry) }
-        ensures live { lent shelves.exit lasts.exit words.exit ≡ store_after result (lent page_shelves.entry page_lasts.entry page_words.entry) (lent shelves.entry lasts.entry words.entry) }
+        ensures value { result ≡ begun_in term members before (lent page_shelves.now page_lasts.now page_words.now) (lent base_shelves.old base_lasts.old base_words.old) (lent shelves.old lasts.old words.old) self }
+        ensures base { lent base_shelves.new base_lasts.new base_words.new ≡ store_after result (lent page_shelves.now page_lasts.now page_words.now) (lent base_shelves.old base_lasts.old base_words.old) }
+        ensures live { lent shelves.new lasts.new words.new ≡ store_after result (lent page_shelves.now page_lasts.now page_words.now) (lent shelves.old lasts.old words.old) }
     {
         if !is_whole(page_shelves, page_lasts, page_words)
             || !is_whole(base_shelves, base_lasts, base_words)

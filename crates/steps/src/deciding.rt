@@ -13,7 +13,7 @@ use store::is_whole;
 
 // Does one entry on a store: a request that is refused changes nothing, nor does a close.
 fn act(entry: Entry, shelves: &mut [u32], lasts: &mut [u32], words: &mut [u32])
-    ensures { lent shelves.exit lasts.exit words.exit ≡ acted entry (lent shelves.entry lasts.entry words.entry) }
+    ensures { lent shelves.new lasts.new words.new ≡ acted entry (lent shelves.old lasts.old words.old) }
 {
     if let Entry::Call(request) = entry {
         let _ = request.apply(shelves, lasts, words);
@@ -22,7 +22,7 @@ fn act(entry: Entry, shelves: &mut [u32], lasts: &mut [u32], words: &mut [u32])
 
 // Does the requests of entries on a store, one after the other.
 pub fn play(entries: &[Entry], shelves: &mut [u32], lasts: &mut [u32], words: &mut [u32])
-    ensures { lent shelves.exit lasts.exit words.exit ≡ played (lent shelves.entry lasts.entry words.entry) (requests_in entries.now) }
+    ensures { lent shelves.new lasts.new words.new ≡ played (lent shelves.old lasts.old words.old) (requests_in entries.now) }
 {
     let mut rest = entries;
     while let Some((entry, after)) = rest.split_first() {
@@ -64,8 +64,8 @@ impl Head {
         lasts: &mut [u32],
         words: &mut [u32],
     ) -> Result<Head, Refusal>
-        ensures value { result ≡ decided_in k log.now (lent shelves.entry lasts.entry words.entry) self }
-        ensures store { lent shelves.exit lasts.exit words.exit ≡ live_after result log.now self (lent shelves.entry lasts.entry words.entry) }
+        ensures value { result ≡ decided_in k log.now (lent shelves.old lasts.old words.old) self }
+        ensures store { lent shelves.new lasts.new words.new ≡ live_after result log.now self (lent shelves.old lasts.old words.old) }
     {
         if !self.fits_log(log.len()) || !is_whole(shelves, lasts, words) {
             return Err(Refusal::Memory);

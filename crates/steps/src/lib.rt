@@ -1,4 +1,5 @@
 // A station's steps.
+#![tactic(auto)]
 
 mod asking;
 mod councils;

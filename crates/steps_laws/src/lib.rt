@@ -1,4 +1,6 @@
 // The theorems of the steps: each is a step of the rules, so all stations stand on one line. Each function is there for its contract.
+#![tactic(auto)]
+
 ghost use Rattle.steps_laws.specs.Laws.{AnswersAtPlace, Keeps, LineGrows, OneLine, OneWord, Refines};
 ghost use Rattle.steps_laws.specs.Shown.{Shown};
 

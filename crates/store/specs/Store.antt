@@ -1,7 +1,6 @@
 -- What requests make of a store: its tables, one request, a list of requests.
 -- Nothing here looks at the kind of a request: it is asked for its shelf, what it leaves there and its word.
 use Rattle.std.specs.Prelude.{ℕ, ◌+◌, Bool, cond, not, ◌&&◌, List, [], ◌∷◌, length, replicate, is_ok, Ok, Err, Result, ◌==◌, nat_lt, slice_index, slice_set}
-use Rattle.std.specs.Borrow.{Bor}
 use Rattle.store.specs.declared.refusal.Refusal.{Refusal}
 use Rattle.store.specs.declared.refusal.Refusal.TheVariants.{Tables, Key, NotNext}
 use Rattle.store.specs.declared.request.Request.{Request}
@@ -17,8 +16,8 @@ abbrev pub tables : List ℕ → List ℕ → List ℕ → Store
 tables shelves lasts words = record { shelves = shelves; lasts = lasts; words = words }
 
 -- the store that three lent slices hold
-abbrev pub lent : Bor (List ℕ) → Bor (List ℕ) → Bor (List ℕ) → Store
-lent shelves lasts words = tables shelves.now lasts.now words.now
+abbrev pub lent : List ℕ → List ℕ → List ℕ → Store
+lent shelves lasts words = tables shelves lasts words
 
 -- as a register begins
 abbrev pub bare : Store

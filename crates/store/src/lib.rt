@@ -1,4 +1,5 @@
 // Requests, and what they do to a store in lent memory.
+#![tactic(auto)]
 
 mod ask;
 mod refusal;

@@ -20,7 +20,7 @@ pub struct Request {
 impl Request {
     // The word that doing it now gets, or why it is refused.
     pub fn outcome(self, shelves: &[u32], lasts: &[u32], words: &[u32]) -> Result<u32, Refusal>
-        ensures { result ≡ outcome self (lent shelves.entry lasts.entry words.entry) }
+        ensures { result ≡ outcome self (lent shelves.now lasts.now words.now) }
     {
         if !is_whole(shelves, lasts, words) {
             return Err(Refusal::Tables);
@@ -43,8 +43,8 @@ impl Request {
         lasts: &mut [u32],
         words: &mut [u32],
     ) -> Result<u32, Refusal>
-        ensures word { result ≡ outcome self (lent shelves.entry lasts.entry words.entry) }
-        ensures store { lent shelves.exit lasts.exit words.exit ≡ applied self (lent shelves.entry lasts.entry words.entry) }
+        ensures word { result ≡ outcome self (lent shelves.old lasts.old words.old) }
+        ensures store { lent shelves.new lasts.new words.new ≡ applied self (lent shelves.old lasts.old words.old) }
     {
         let word = self.outcome(shelves, lasts, words)?;
         let key = usize::from(self.ask.key());
@@ -58,16 +58,16 @@ impl Request {
 
 // Whether the slices are the tables of a store: a word for each shelf, two for each client.
 pub fn is_whole(shelves: &[u32], lasts: &[u32], words: &[u32]) -> bool
-    ensures { result ≡ whole (lent shelves.entry lasts.entry words.entry) }
+    ensures { result ≡ whole (lent shelves.now lasts.now words.now) }
 {
     shelves.len() == SHELVES && lasts.len() == CLIENTS && words.len() == CLIENTS
 }
 
 // Does one request: 1 if it was done, 0 if it was refused.
 fn count_done(request: Request, shelves: &mut [u32], lasts: &mut [u32], words: &mut [u32]) -> usize
-    ensures count { result ≡ counted request (lent shelves.entry lasts.entry words.entry) }
+    ensures count { result ≡ counted request (lent shelves.old lasts.old words.old) }
     ensures bound { result ≤ 1 }
-    ensures store { lent shelves.exit lasts.exit words.exit ≡ applied request (lent shelves.entry lasts.entry words.entry) }
+    ensures store { lent shelves.new lasts.new words.new ≡ applied request (lent shelves.old lasts.old words.old) }
 {
     match request.apply(shelves, lasts, words) {
         Ok(_) => 1,
@@ -77,8 +77,8 @@ fn count_done(request: Request, shelves: &mut [u32], lasts: &mut [u32], words: &
 
 // Does requests one after the other, passing over those that are refused: how many were done.
 fn fold(requests: &[Request], shelves: &mut [u32], lasts: &mut [u32], words: &mut [u32]) -> usize
-    ensures count { result ≡ tally (lent shelves.entry lasts.entry words.entry) requests.now }
-    ensures store { lent shelves.exit lasts.exit words.exit ≡ played (lent shelves.entry lasts.entry words.entry) requests.now }
+    ensures count { result ≡ tally (lent shelves.old lasts.old words.old) requests.now }
+    ensures store { lent shelves.new lasts.new words.new ≡ played (lent shelves.old lasts.old words.old) requests.now }
 {
     let mut count = 0;
     let mut rest = requests;
@@ -97,8 +97,8 @@ pub fn apply_all(
     lasts: &mut [u32],
     words: &mut [u32],
 ) -> Result<usize, Refusal>
-    ensures count { result ≡ totalled (lent shelves.entry lasts.entry words.entry) requests.now }
-    ensures store { lent shelves.exit lasts.exit words.exit ≡ played (lent shelves.entry lasts.entry words.entry) requests.now }
+    ensures count { result ≡ totalled (lent shelves.old lasts.old words.old) requests.now }
+    ensures store { lent shelves.new lasts.new words.new ≡ played (lent shelves.old lasts.old words.old) requests.now }
 {
     if !is_whole(shelves, lasts, words) {
         return Err(Refusal::Tables);

@@ -1,5 +1,7 @@
 // The laws of requests and their store. Each function is there for its contract, a theorem of `specs/`;
 // the definitions are those that the contracts of `store` equate the code with.
+#![tactic(auto)]
+
 ghost use Rattle.store_laws.specs.Laws.{OnlyNext, Once, NeverFalls, InTurn, WordGot};
 ghost use Rattle.store_laws.specs.Reading.{ReadsAs};
 

@@ -1,4 +1,6 @@
 // Lines, words and numbers in a text of bytes.
+#![tactic(auto)]
+
 ghost use Rattle.std.specs.Prelude.{◌≡◌, ◌<◌, ◌≤◌, length, take, drop, IfSome};
 ghost use Rattle.std.specs.Str.{bytes_eq};
 ghost use Rattle.text.specs.Text.{after_word, beyond, first_word, number_up_to, onward, trimmed, up_to};

@@ -3,7 +3,7 @@ use Rattle.std.proofs.Common.{◌≡◌, ℕ, ◌+◌, ◌*◌, ◌/◌, ◌%◌
 use Rattle.wire.specs.Bytes.{Read, ◌then◌, four, four_bytes, one, one_byte, some, two, two_bytes}
 use Rattle.wire.specs.Exact.{Bytes, Exact, Numbers}
 use Rattle.std.proofs.lemmas.List.{drop_at, length-append, length-take-le, take-append-drop, take_at}
-use Rattle.std.proofs.lemmas.Bool.{cases_Bool, cond-false, cond-true, le-ltb, ltb_false}
+use Rattle.std.proofs.lemmas.Bool.{cases_Bool, cond-false, cond-true, le-ltb, ltb-false}
 
 -- nothing was not something
 pub none_some : {A : Type 0} {a : A} → None ≡ Some a → ⊥
@@ -85,7 +85,7 @@ some_only n bs ys rest h e =
     (λ (k : ltb (length bs) n ≡ false).
     let f = sym (cond-false (ltb (length bs) n) None (Some (take n bs, drop n bs)) k) ∙ e in
     let v = same_value f in
-    (sym (ap length v) ∙ length-take-le n bs (ltb_false (length bs) n k), sym (take-append-drop n bs) ∙ cc (v, same_rest f)))
+    (sym (ap length v) ∙ length-take-le n bs (ltb-false (length bs) n k), sym (take-append-drop n bs) ∙ cc (v, same_rest f)))
     (cases_Bool (ltb (length bs) n))
 
 some_back : (n : ℕ) (ys rest : List ℕ) → length ys ≡ n → some n (ys ++ rest) ≡ Some (ys, rest)

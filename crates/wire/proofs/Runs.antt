@@ -5,7 +5,7 @@ use Rattle.wire.specs.Bytes.{Read, ◌then◌, two, two_bytes}
 use Rattle.wire.specs.Exact.{Bytes, Exact}
 use Rattle.wire.specs.Several.{joined, several}
 use Rattle.std.proofs.lemmas.List.{append_assoc}
-use Rattle.std.proofs.lemmas.Bool.{cases_Bool, cond-false, cond-true, le-ltb, ltb_false}
+use Rattle.std.proofs.lemmas.Bool.{cases_Bool, cond-false, cond-true, le-ltb, ltb-false}
 use Rattle.std.specs.List.{AllByRecursion as All}
 
 -- what a reader that is exact read: something that fits, its bytes, and bytes behind it
@@ -69,7 +69,7 @@ module _ {A : Type 0} {reads : List ℕ → Read A} {bytes : A → List ℕ} {Fi
       (λ (b : ltb limit n ≡ true). absurd (none_some (sym (cond-true (ltb limit n) None (several reads n s.rest) b) ∙ s.second)))
       (λ (b : ltb limit n ≡ false).
       let o = several_only n s.rest xs rest t.behind (sym (cond-false (ltb limit n) None (several reads n s.rest) b) ∙ s.second) in
-      let few = ltb_false limit n b in
+      let few = ltb-false limit n b in
       let long = o.0.0 in
       ((omega arith, o.0.1), t.is ∙ ap (λ (l : List ℕ). two_bytes n ++ l) o.1 ∙ ap (λ (k : ℕ). two_bytes k ++ (joined bytes xs ++ rest)) (sym long)))
       (cases_Bool (ltb limit n))

@@ -1,4 +1,6 @@
 // Numbers in bytes, high byte first: read from the front of one lent slice, written into another.
+#![tactic(auto)]
+
 ghost use Rattle.wire.specs.Bytes.{four, four_bytes, one, placed, placed_at, seen, seen_parts, some, two, two_bytes};
 ghost use Rattle.wire.specs.Exact.{Numbers};
 ghost use Rattle.std.specs.Prelude.{◌≡◌, ◌++◌, length};

@@ -7,14 +7,14 @@ use Rattle.store.specs.Store.{lent, whole}
 
 pub returns-in-err-end : goal.returns-in-err-end
 returns-in-err-end c =
-    let s = lent c.args.shelves c.args.lasts c.args.words in
+    let s = lent c.args.shelves.now c.args.lasts.now c.args.words.now in
     let hs = 7 ∷ c.args.term / 256 ∷ c.args.term % 256 ∷ list_bytes (listed c.args.members) in
     let e = none_begun c.args.out.now hs (page_bytes c.args.before s) c.args.at _ (search rules) (whole s) c.write-page.new.out (search rules) c.write-page.ensures.bytes in
     record { end = search rules; bytes = search rules }
 
 pub returns : goal.returns
 returns c =
-    let s = lent c.args.shelves c.args.lasts c.args.words in
+    let s = lent c.args.shelves.now c.args.lasts.now c.args.words.now in
     let hs = 7 ∷ c.args.term / 256 ∷ c.args.term % 256 ∷ list_bytes (listed c.args.members) in
     let e = begun c.args.out.now hs (page_bytes c.args.before s) c.args.at _ (search rules) (whole s) c.write-page.new.out c.put-both.new.out c.in-ok-end.end (search rules) c.write-page.ensures.bytes (search rules) in
     record { end = search rules; bytes = search rules }

@@ -4,9 +4,9 @@ use Rattle.page_write.proofs.put_client_rows.Goals.{else-last-ne0, then-last-ne0
 use Rattle.page.specs.Rows.{client_bytes, client_row}
 use Rattle.std.proofs.Common.{rules}
 
-pub put-part-next-requires : goal.put-part-next-requires
-put-part-next-requires c =
-    let e = full_place client_bytes (client_row c.args.words.now) c.args.lasts.now c.loop-client.client c.client-bytes.result (search rules) c.if-last-ne0.true c.client-bytes.ensures in
+pub put_part-next-requires : goal.put_part-next-requires
+put_part-next-requires c =
+    let e = full_place client_bytes (client_row c.args.words.now) c.args.lasts.now c.loop-client.client c.client_bytes.result (search rules) c.if-last-ne0.true c.client_bytes.ensures in
     left_room _ _ _ _ _ _ _ _ e (search rules) c.loop-client.invariant
 
 pub loop-client-preserved : goal.loop-client-preserved
@@ -14,8 +14,8 @@ loop-client-preserved c =
     let i = c.loop-client.client in
     elim c.if-last-ne0.branch [
       | then-last-ne0 w ↦
-          let e = full_place client_bytes (client_row c.args.words.now) c.args.lasts.now i w.client-bytes.result (search rules) w.if-last-ne0.true w.client-bytes.ensures in
-          left_put _ w.client-bytes.result _ _ c.if-last-ne0.next _ c.if-last-ne0.out _ _ _ c.loop-client.invariant e (search rules) (search rules) (search rules)
+          let e = full_place client_bytes (client_row c.args.words.now) c.args.lasts.now i w.client_bytes.result (search rules) w.if-last-ne0.true w.client_bytes.ensures in
+          left_put _ w.client_bytes.result _ _ c.if-last-ne0.next _ c.if-last-ne0.out _ _ _ c.loop-client.invariant e (search rules) (search rules) (search rules)
       | else-last-ne0 w ↦
           let e = empty_place client_bytes (client_row c.args.words.now) c.args.lasts.now i (search rules) (search rules) in
           left_skip _ _ _ _ _ _ _ _ _ e w.next_is w.out-is c.loop-client.invariant

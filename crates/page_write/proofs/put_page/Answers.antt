@@ -7,27 +7,27 @@ use Rattle.std.proofs.lemmas.List.{length-append}
 use Rattle.store.specs.Store.{lent}
 use Rattle.std.proofs.Common.{◌++◌, ap, ◌∙◌, rules}
 
-pub put-part-next-requires : goal.put-part-next-requires
-put-part-next-requires c =
+pub put_part-next-requires : goal.put_part-next-requires
+put_part-next-requires c =
     let s = shelves_bytes c.args.shelves.now in
     let k = clients_bytes c.args.lasts.now c.args.words.now in
-    let n = page_parts c.args.before (lent c.args.shelves c.args.lasts c.args.words) in
+    let n = page_parts c.args.before (lent c.args.shelves.now c.args.lasts.now c.args.words.now) in
     let m = length-append s k in
     search rules
 
-pub put-shelves-next-requires : goal.put-shelves-next-requires
-put-shelves-next-requires c =
+pub put_shelves-next-requires : goal.put_shelves-next-requires
+put_shelves-next-requires c =
     let s = shelves_bytes c.args.shelves.now in
     let k = clients_bytes c.args.lasts.now c.args.words.now in
-    let n = page_parts c.args.before (lent c.args.shelves c.args.lasts c.args.words) in
+    let n = page_parts c.args.before (lent c.args.shelves.now c.args.lasts.now c.args.words.now) in
     let m = length-append s k in
     search rules
 
-pub put-clients-requires : goal.put-clients-requires
-put-clients-requires c =
+pub put_clients-requires : goal.put_clients-requires
+put_clients-requires c =
     let s = shelves_bytes c.args.shelves.now in
     let k = clients_bytes c.args.lasts.now c.args.words.now in
-    let n = page_parts c.args.before (lent c.args.shelves c.args.lasts c.args.words) in
+    let n = page_parts c.args.before (lent c.args.shelves.now c.args.lasts.now c.args.words.now) in
     let m = length-append s k in
     search rules
 
@@ -36,10 +36,10 @@ unfolding page_bytes
 returns c =
     let s = shelves_bytes c.args.shelves.now in
     let k = clients_bytes c.args.lasts.now c.args.words.now in
-    let n = page_parts c.args.before (lent c.args.shelves c.args.lasts c.args.words) in
+    let n = page_parts c.args.before (lent c.args.shelves.now c.args.lasts.now c.args.words.now) in
     let m = length-append s k in
-    let e = both_placed c.put-part-next.new.out c.put-shelves-next.new.out c.put-clients.new.out c.put-part-next.result c.put-shelves-next.result s k
-    c.put-shelves-next.ensures.bytes c.put-clients.ensures.bytes (search rules) (search rules) in
-    let f = both_placed c.args.out.now c.put-part-next.new.out c.put-clients.new.out c.args.at c.put-part-next.result (four_bytes c.args.before) (s ++ k)
-    (c.put-part-next.ensures.bytes ∙ ap (placed_at c.args.out.now c.args.at) c.u32-bytes.ensures) e (search rules) (search rules) in
+    let e = both_placed c.put_part-next.new.out c.put_shelves-next.new.out c.put_clients.new.out c.put_part-next.result c.put_shelves-next.result s k
+    c.put_shelves-next.ensures.bytes c.put_clients.ensures.bytes (search rules) (search rules) in
+    let f = both_placed c.args.out.now c.put_part-next.new.out c.put_clients.new.out c.args.at c.put_part-next.result (four_bytes c.args.before) (s ++ k)
+    (c.put_part-next.ensures.bytes ∙ ap (placed_at c.args.out.now c.args.at) c.u32_bytes.ensures) e (search rules) (search rules) in
     record { end = search rules; bytes = f }

@@ -3,22 +3,22 @@ use Rattle.page_write.proofs.write_page.Goals as goal
 use Rattle.store.specs.Store.{lent}
 use Rattle.std.proofs.Common.{rules}
 
-pub returns-in-err-end : goal.returns-in-err-end
-returns-in-err-end c =
-    let n = page_size_lem c.args.before (lent c.args.shelves c.args.lasts c.args.words) in
+pub returns-in_err-end : goal.returns-in_err-end
+returns-in_err-end c =
+    let n = page_size_lem c.args.before (lent c.args.shelves.now c.args.lasts.now c.args.words.now) in
     search rules
 
 pub returns-then-end-out : goal.returns-then-end-out
 returns-then-end-out c =
-    let n = page_size_lem c.args.before (lent c.args.shelves c.args.lasts c.args.words) in
+    let n = page_size_lem c.args.before (lent c.args.shelves.now c.args.lasts.now c.args.words.now) in
     search rules
 
-pub put-page-requires : goal.put-page-requires
-put-page-requires c =
-    let n = page_size_lem c.args.before (lent c.args.shelves c.args.lasts c.args.words) in
+pub put_page-requires : goal.put_page-requires
+put_page-requires c =
+    let n = page_size_lem c.args.before (lent c.args.shelves.now c.args.lasts.now c.args.words.now) in
     search rules
 
 pub returns : goal.returns
 returns c =
-    let n = page_size_lem c.args.before (lent c.args.shelves c.args.lasts c.args.words) in
+    let n = page_size_lem c.args.before (lent c.args.shelves.now c.args.lasts.now c.args.words.now) in
     search rules

@@ -6,5 +6,5 @@ pub returns : goal.returns
 returns c =
     record {
       end = search rules;
-      bytes = put_is c.args.out.now c.args.bytes.now c.copy-from-slice.new.self c.args.at c.in-ok-end.end (search rules) (search rules) (search rules);
+      bytes = put_is c.args.out.now c.args.bytes.now c.copy_from_slice.new.self c.args.at c.in_ok-end.end (search rules) (search rules) (search rules);
     }

@@ -3,8 +3,8 @@ use Rattle.wire.proofs.put_both.Goals as goal
 use Rattle.std.proofs.lemmas.List.{length-append}
 use Rattle.std.proofs.Common.{rules}
 
-pub returns-in-err-end : goal.returns-in-err-end
-returns-in-err-end c = let n = length-append c.args.first.now c.args.second.now in search rules
+pub returns-in_err-end : goal.returns-in_err-end
+returns-in_err-end c = let n = length-append c.args.first.now c.args.second.now in search rules
 
 pub returns-then-end-out : goal.returns-then-end-out
 returns-then-end-out c = let n = length-append c.args.first.now c.args.second.now in search rules

@@ -4,18 +4,18 @@ use Rattle.entries.proofs.reading.judge_entries.Goals as goal
 use Rattle.entries.specs.Entries.{sound_too}
 use Rattle.entry.specs.Entry.{entry_of}
 
-pub returns-in-err-found : goal.returns-in-err-found
-returns-in-err-found c =
+pub returns-in_err-found : goal.returns-in_err-found
+returns-in_err-found c =
     let l = c.loop-turn in
-    let e = sym (walk_cut entry_of sound_too (c.args.count - l.turn) l.sound l.rest.now (search rules) c.in-err-found.ensures) ∙ l.invariant ∙ walk_is entry_of sound_too c.args.count true c.args.bytes.now in
+    let e = sym (walk_cut entry_of sound_too (c.args.count - l.turn) l.sound l.rest.now (search rules) c.in_err-found.ensures) ∙ l.invariant ∙ walk_is entry_of sound_too c.args.count true c.args.bytes.now in
     search rules
 
 pub loop-turn-preserved : goal.loop-turn-preserved
 loop-turn-preserved c =
     let l = c.loop-turn in
     let n : c.args.count - (l.turn + 1) ≡ c.args.count - l.turn - 1 = omega arith in
-    ap (λ (k : ℕ). walk entry_of sound_too k (sound_too l.sound c.in-ok-found.found) c.in-ok-found.after.now) n ∙
-    walk_more entry_of sound_too (c.args.count - l.turn) l.sound _ l.rest.now c.in-ok-found.after.now c.in-ok-found.found (search rules) c.in-ok-found.ensures refl ∙ l.invariant
+    ap (λ (k : ℕ). walk entry_of sound_too k (sound_too l.sound c.in_ok-found.found) c.in_ok-found.after.now) n ∙
+    walk_more entry_of sound_too (c.args.count - l.turn) l.sound _ l.rest.now c.in_ok-found.after.now c.in_ok-found.found (search rules) c.in_ok-found.ensures refl ∙ l.invariant
 
 pub returns : goal.returns
 returns c =

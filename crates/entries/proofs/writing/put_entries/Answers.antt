@@ -11,8 +11,8 @@ pub loop-entry-preserved : goal.loop-entry-preserved
 loop-entry-preserved c =
     let first = c.in-Some.ensures.cases.0 in
     let k = size_more c.loop-entry.rest.now c.in-Some.after.now c.in-Some.entry.now first in (
-      placed_more c.loop-entry.out c.write-entry.new.out c.loop-entry.next c.in-Some-write-entry.end c.loop-entry.rest.now c.in-Some.after.now c.in-Some.entry.now _ first c.loop-entry.invariant.2
-          c.write-entry.ensures.bytes (search rules) c.loop-entry.invariant.0,
+      placed_more c.loop-entry.out c.write_entry.new.out c.loop-entry.next c.in-Some-write_entry.end c.loop-entry.rest.now c.in-Some.after.now c.in-Some.entry.now _ first c.loop-entry.invariant.2
+          c.write_entry.ensures.bytes (search rules) c.loop-entry.invariant.0,
       search rules,
       search rules,
     )

@@ -5,7 +5,7 @@ use Rattle.std.proofs.Common.{length, sym, ap, ◌∙◌, rules}
 
 pub loop-station-preserved : goal.loop-station-preserved
 loop-station-preserved c = (
-  listing_more c.loop-station.listing c.list-next-listing.result c.loop-station.station c.loop-station.left _ c.loop-station-test.true (search rules) c.list-next-listing.ensures c.loop-station.invariant.0,
+  listing_more c.loop-station.listing c.list_next-listing.result c.loop-station.station c.loop-station.left _ c.loop-station-test.true (search rules) c.list_next-listing.ensures c.loop-station.invariant.0,
   search rules,
   search rules,
 )

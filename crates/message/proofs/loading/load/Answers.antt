@@ -4,5 +4,5 @@ use Rattle.std.proofs.Common.{rules}
 
 pub returns-in-Part : goal.returns-in-Part
 returns-in-Part c =
-    let e = part_laid c.args.log.now c.from.result c.in-Part.count c.args.body.now c.load-entries-in-Part.new.log (search rules) c.load-entries-in-Part.ensures.log in
+    let e = part_laid c.args.log.now c.from.result c.in-Part.count c.args.body.now c.load_entries-in-Part.new.log (search rules) c.load_entries-in-Part.ensures.log in
     record { log = search rules; store = search rules }

@@ -7,4 +7,4 @@ use Rattle.store.specs.Store.{lent}
 pub returns : goal.returns
 returns c =
     three (string_bytes c.push-str.new.self) (string_bytes c.push-head.new.out) _ (string_bytes c.args.out.now) (decimal c.args.line ++ codes " ") (head_text c.args.message)
-    (body_text c.args.message c.args.log.now (lent c.args.shelves c.args.lasts c.args.words)) (search rules) c.in-ok-push-head.ensures c.in-ok-push-body.ensures
+    (body_text c.args.message c.args.log.now (lent c.args.shelves.now c.args.lasts.now c.args.words.now)) (search rules) c.in-ok-push-head.ensures c.in-ok-push-body.ensures
