@@ -63,10 +63,22 @@ def goals():
     return names
 
 
+def outside():
+    """Names that come from the kit, whatever else has them."""
+    names = set()
+    for path in files((".antt", ".rt")):
+        for module, listed in re.findall(r"use (\S+?)\.\{([^}]*)\}", read(path)):
+            own = re.match(r"Rattle\.(\w+)\.", module)
+            if not own or not os.path.isdir(f"crates/{own.group(1)}"):
+                names.update(n.strip().split(" as ")[0] for n in listed.split(","))
+    return names
+
+
 def main():
     dry = "--dry" in sys.argv
     made = goals()
-    turned = {n: snake(n) for n in defined() if snake(n) != n and n not in made}
+    kit = outside()
+    turned = {n: snake(n) for n in defined() if snake(n) != n and n not in made | kit}
     seen = {}
     for path in files((".antt", ".rt")):
         for w in set(WORD.findall(read(path))):
@@ -96,7 +108,14 @@ def main():
         return 0
     for path in files((".antt", ".rt", ".edit")):
         text = read(path)
-        new = WORD.sub(lambda m: turned.get(m.group(0), m.group(0)), text)
+        of_a_function = re.search(r"/proofs/.*/", path)  # where a dashed word behind a dot is a field that the toolchain makes
+
+        def turn(m):
+            if of_a_function and "-" in m.group(0) and text[m.start() - 1 : m.start()] == ".":
+                return m.group(0)
+            return turned.get(m.group(0), m.group(0))
+
+        new = WORD.sub(turn, text)
         for a, b in CRATES.items():
             new = new.replace(f"Rattle.{a}.", f"Rattle.{b}.")
             new = re.sub(rf"^(\s*(?:pub )?use ){a}::", rf"\g<1>{b}::", new, flags=re.M)

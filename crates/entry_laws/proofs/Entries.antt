@@ -14,7 +14,7 @@ use Rattle.entry_laws.proofs.Shapes.{forms}
 use Rattle.entry_laws.specs.Laws.{Entries, EntryFits, RawFits, accepted}
 use Rattle.std.proofs.lemmas.Nat.{pow_pos}
 use Rattle.std.proofs.lemmas.List.{append-nil, nil_from_length}
-use Rattle.std.proofs.lemmas.Bool.{and_parts, cases_Bool, cond-false, cond-true, eqb-false, eqb-true, lt-ltb, ltb_true, ne_eqb, not-true}
+use Rattle.std.proofs.lemmas.Bool.{and_parts, cases_Bool, cond-false, cond-true, eqb-false, eqb-true, lt-ltb, ltb-true, ne_eqb, not-true}
 use Rattle.store.specs.Ask.{key_of}
 
 -- a listing of n stations from i on has at most n members, each a byte
@@ -81,7 +81,7 @@ members_only ms h =
 
 -- an entry of the right form that is in range is an entry, and its bytes are those that are written of it
 raw_entry : (w : Raw) → RawFits w → (found_in w).sound ≡ true → EntryFits (found_in w).entry × (raw_bytes w ≡ entry_bytes (found_in w).entry)
-raw_entry (Asks r) h b = ((h, ltb_true (key_of r.ask) 1024 b), refl)
+raw_entry (Asks r) h b = ((h, ltb-true (key_of r.ask) 1024 b), refl)
 raw_entry (Names ms) h b = let m = members_only ms b in (m.0, ap (λ (l : List ℕ). 2 ∷ (length l ∷ l)) (sym m.1))
 
 entry_only : (bs : List ℕ) (e : Entry) (rest : List ℕ) → Bytes bs → accepted bs ≡ Some (e, rest) → EntryFits e × (bs ≡ entry_bytes e ++ rest)

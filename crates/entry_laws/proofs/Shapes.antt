@@ -8,7 +8,7 @@ use Rattle.entry.specs.Entry.{Asks, Names, Raw, raw_bytes, raw_of, request_bytes
 use Rattle.entry.specs.Members.{list_bytes, list_of}
 use Rattle.entry_laws.proofs.Asking.{request_exact}
 use Rattle.entry_laws.specs.Laws.{Forms, RawFits, RequestFits}
-use Rattle.std.proofs.lemmas.Bool.{cases_Bool, cond-false, cond-true, eqb-true, le-ltb, ltb_false}
+use Rattle.std.proofs.lemmas.Bool.{cases_Bool, cond-false, cond-true, eqb-true, le-ltb, ltb-false}
 use Rattle.store.specs.declared.request.Request.{Request}
 
 bytes_front : (ys rest : List ℕ) → Bytes (ys ++ rest) → Bytes ys
@@ -27,7 +27,7 @@ list_only bs ms rest h e =
     (λ (b : ltb 16 n ≡ true). absurd (none_some (sym (cond-true (ltb 16 n) None (some n s.rest) b) ∙ s.second)))
     (λ (b : ltb 16 n ≡ false).
     let o = (some_exact n).only s.rest ms rest t.behind (sym (cond-false (ltb 16 n) None (some n s.rest) b) ∙ s.second) in
-    let few = ltb_false 16 n b in
+    let few = ltb-false 16 n b in
     let long = o.0 in
     ((omega arith, bytes_front ms rest (subst Bytes o.1 t.behind)), t.is ∙ ap (λ (l : List ℕ). n ∷ l) o.1 ∙ ap (λ (k : ℕ). k ∷ (ms ++ rest)) (sym long)))
     (cases_Bool (ltb 16 n))

@@ -11,7 +11,7 @@ use Rattle.message.specs.Message.{ask_of, begin_of, body_of, ended_to, head_of, 
 use Rattle.message.specs.declared.head.Judged.{Judged}
 use Rattle.message.specs.declared.head.Message.{Message}
 use Rattle.message.specs.declared.head.Message.TheVariants.{Ask, Begin, Part, Promise, Took}
-use Rattle.std.proofs.lemmas.Bool.{cases_Bool, cond-false, cond-true, le-leb, ltb_false}
+use Rattle.std.proofs.lemmas.Bool.{cases_Bool, cond-false, cond-true, le-leb, ltb-false}
 use Rattle.store.specs.Store.{Store, whole}
 
 -- the counts of a message are within a log
@@ -27,7 +27,7 @@ kept : {A : Type 0} (n : ℕ) (read : Read A) (y : A × List ℕ) → cond (ltb 
 kept n read y e =
     ⊎_elim
     (λ (b : ltb 4096 n ≡ true). absurd (none_some (sym (cond-true (ltb 4096 n) None read b) ∙ e)))
-    (λ (b : ltb 4096 n ≡ false). (ltb_false 4096 n b, sym (cond-false (ltb 4096 n) None read b) ∙ e))
+    (λ (b : ltb 4096 n ≡ false). (ltb-false 4096 n b, sym (cond-false (ltb 4096 n) None read b) ∙ e))
     (cases_Bool (ltb 4096 n))
 
 either : {A : Type 0} (b : Bool) (x y z : A) → cond b x y ≡ z → (x ≡ z) ⊎ (y ≡ z)

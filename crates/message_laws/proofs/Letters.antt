@@ -22,7 +22,7 @@ use Rattle.page_laws.proofs.Forms.{page_forms}
 use Rattle.page_laws.proofs.Pages.{page_fits, pages}
 use Rattle.page_laws.specs.Laws.{Paged, PagedFits, RawPageFits}
 use Rattle.std.proofs.lemmas.List.{append-nil, length-map}
-use Rattle.std.proofs.lemmas.Bool.{and_from, and_parts, cond-false, cond-true, lt-ltb, ltb_true, ne_eqb}
+use Rattle.std.proofs.lemmas.Bool.{and_from, and_parts, cond-false, cond-true, lt-ltb, ltb-true, ne_eqb}
 use Rattle.store.specs.Store.{Store, bare}
 
 abbrev paged : ℕ → Store → Paged
@@ -116,7 +116,7 @@ pub record InForm (w : RawLetter) : Type 0 where
   pub bytes : raw_letter_bytes w ≡ letter_bytes (letter_from w)
 
 pub in_form : (w : RawLetter) → RawLetterFits w → Bytes (raw_letter_bytes w) → in_range w ≡ true → InForm w
-in_form (RawAsks t b) h all e = let above = ltb_true 0 b (and_parts (ltb 0 b) true e).0 in record { fits = (h.0, h.1, (omega arith)); bytes = refl }
+in_form (RawAsks t b) h all e = let above = ltb-true 0 b (and_parts (ltb 0 b) true e).0 in record { fits = (h.0, h.1, (omega arith)); bytes = refl }
 in_form (RawPromises t b from had log) h all e =
     let p = and_parts (ltb from 16) (after sound_too true (map found_in log)) e in
     let r = raw_entries log true h.5 p.1 in
@@ -124,7 +124,7 @@ in_form (RawPromises t b from had log) h all e =
     let long : length es ≡ length log = length-map (map found_in log) (λ f. f.entry) ∙ length-map log found_in in
     let few = h.4 in
     record {
-      fits = (h.0, h.1, ltb_true from 16 p.0, h.3, (omega arith), r.fits);
+      fits = (h.0, h.1, ltb-true from 16 p.0, h.3, (omega arith), r.fits);
       bytes = ap (λ (n : ℕ). promise_head t b from had n ++ joined raw_bytes log) (sym long) ∙ ap (λ (x : List ℕ). promise_head t b from had (length es) ++ x) r.bytes;
     }
 in_form (RawParts t b place ws) h all e =
@@ -134,12 +134,12 @@ in_form (RawParts t b place ws) h all e =
     let long : length es ≡ length ws = length-map (map found_in ws) (λ f. f.entry) ∙ length-map ws found_in in
     let few = h.2 in
     record {
-      fits = (h.0, h.1, ltb_true 0 b p.0, (omega arith), r.fits);
+      fits = (h.0, h.1, ltb-true 0 b p.0, (omega arith), r.fits);
       bytes = ap (λ (n : ℕ). part_head t b place n ++ joined raw_bytes ws) (sym long) ∙ ap (λ (x : List ℕ). part_head t b place (length es) ++ x) r.bytes;
     }
 in_form (RawTakes t b from c) h all e =
     let p = and_parts (ltb 0 b) (ltb from 16) (and_parts (ltb 0 b && ltb from 16) true e).0 in
-    record { fits = (h.0, h.1, ltb_true 0 b p.0, ltb_true from 16 p.1, h.3); bytes = refl }
+    record { fits = (h.0, h.1, ltb-true 0 b p.0, ltb-true from 16 p.1, h.3); bytes = refl }
 in_form (RawBegins t ms p) h all e =
     let d = and_parts (members_in ms).sound (judgedPage p).sound e in
     let c = council_only ms h.1 h.2 d.0 in

@@ -15,7 +15,7 @@ use Rattle.entry_laws.proofs.Shapes.{list_exact}
 use Rattle.entry_laws.specs.Laws.{EntryFits, RawFits, accepted, rising}
 use Rattle.message_laws.proofs.Shapes.{within}
 use Rattle.std.proofs.lemmas.List.{append-nil}
-use Rattle.std.proofs.lemmas.Bool.{and_parts, cond-false, cond-true, le-ltb, lt-ltb, ltb_true}
+use Rattle.std.proofs.lemmas.Bool.{and_parts, cond-false, cond-true, le-ltb, lt-ltb, ltb-true}
 use Rattle.std.specs.List.{AllByRecursion as All}
 use Rattle.store.specs.Ask.{key_of}
 
@@ -30,7 +30,7 @@ rising_bytes i [] e = tt
 rising_bytes i (m ∷ ms) e =
     let p = and_parts (leb i m) (ltb m 16 && rising (m + 1) ms) e in
     let q = and_parts (ltb m 16) (rising (m + 1) ms) p.1 in
-    let low = ltb_true m 16 q.0 in
+    let low = ltb-true m 16 q.0 in
     (omega arith, rising_bytes (m + 1) ms q.1)
 
 -- what is accepted of members behind the kind of a close
@@ -107,7 +107,7 @@ entry_forms (e ∷ es) h =
 
 -- and a form that is in range is that of an entry that fits
 raw_entry : (w : Raw) → RawFits w → (found_in w).sound ≡ true → EntryFits (found_in w).entry × (raw_bytes w ≡ entry_bytes (found_in w).entry)
-raw_entry (Asks r) h b = ((h, ltb_true (key_of r.ask) 1024 b), refl)
+raw_entry (Asks r) h b = ((h, ltb-true (key_of r.ask) 1024 b), refl)
 raw_entry (Names ms) h b = let m = council_only ms h.0 h.1 b in (m.0, ap (λ (l : List ℕ). 2 ∷ list_bytes l) m.1)
 
 pub record RawEntries (ws : List Raw) (ok : Bool) : Type 0 where

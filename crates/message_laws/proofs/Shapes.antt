@@ -12,7 +12,7 @@ use Rattle.message_laws.specs.Laws.{RawAsks, RawBegins, RawLetter, RawLetterFits
 use Rattle.page.specs.Page.{RawPage, raw_page_bytes, raw_page_of}
 use Rattle.page_laws.proofs.Forms.{page_forms}
 use Rattle.std.proofs.lemmas.List.{append_assoc}
-use Rattle.std.proofs.lemmas.Bool.{cases_Bool, cond-false, cond-true, eqb-true, le-ltb, ltb_false}
+use Rattle.std.proofs.lemmas.Bool.{cases_Bool, cond-false, cond-true, eqb-true, le-ltb, ltb-false}
 
 -- each kind as it stands in bytes, behind the byte for its kind
 abbrev pub raw_ask_of : List ℕ → Read RawLetter
@@ -56,7 +56,7 @@ pub within : {B : Type 0} (Goal : Type 0) (limit n : ℕ) (o : Read B) (y : B ×
 within Goal limit n o y e next =
     ⊎_elim
     (λ (b : ltb limit n ≡ true). absurd (none_some (sym (cond-true (ltb limit n) None o b) ∙ e)))
-    (λ (b : ltb limit n ≡ false). next (ltb_false limit n b) (sym (cond-false (ltb limit n) None o b) ∙ e))
+    (λ (b : ltb limit n ≡ false). next (ltb-false limit n b) (sym (cond-false (ltb limit n) None o b) ∙ e))
     (cases_Bool (ltb limit n))
 
 -- the letter that was read is the one that was made

@@ -4,7 +4,7 @@ use Rattle.wire.proofs.Exacts.{none_some}
 use Rattle.wire.proofs.Over.{placed_before}
 use Rattle.wire.specs.Bytes.{over, placed, placed_at}
 use Rattle.std.proofs.lemmas.List.{length-append}
-use Rattle.std.proofs.lemmas.Bool.{cases_Bool, cond-false, cond-true, ltb_false}
+use Rattle.std.proofs.lemmas.Bool.{cases_Bool, cond-false, cond-true, ltb-false}
 
 module _ (out hs ps : List ℕ) (at place : ℕ) (is : place ≡ at + length hs) where
   ends : at + length (hs ++ ps) ≡ place + length ps
@@ -27,7 +27,7 @@ module _ (out hs ps : List ℕ) (at place : ℕ) (is : place ≡ at + length hs)
       ⊎_elim
       (λ (b : ltb (length out) (place + length ps) ≡ true). absurd (none_some (sym (cond-true (ltb (length out) (place + length ps)) None (Some (place + length ps)) b) ∙ h)))
       (λ (b : ltb (length out) (place + length ps) ≡ false).
-      let few = ltb_false (length out) (place + length ps) b in
+      let few = ltb-false (length out) (place + length ps) b in
       ap (λ (n : ℕ). placed_at (placed_at out n ps) at hs) is ∙ placed_before out hs ps at (omega arith))
       (cases_Bool (ltb (length out) (place + length ps)))
 

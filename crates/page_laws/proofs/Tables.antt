@@ -4,7 +4,7 @@ use Rattle.wire.specs.Several.{after}
 use Rattle.page.specs.Rows.{listed, rising}
 use Rattle.std.proofs.ByRecursion.{All-set}
 use Rattle.std.proofs.lemmas.List.{append_assoc, drop_all, drop_more, get_or-set_other, get_or-set_same, length_push, length-set, set_at}
-use Rattle.std.proofs.lemmas.Bool.{and_from, and_parts, cases_eq, cases_lt, cond_both, cond-false, cond-true, eq-eqb, eqb-false, le-leb, leb-true, lt-ltb, ltb_true, ne_eqb, not_from_false, not-true}
+use Rattle.std.proofs.lemmas.Bool.{and_from, and_parts, cases_eq, cases_lt, cond_both, cond-false, cond-true, eq-eqb, eqb-false, le-leb, leb-true, lt-ltb, ltb-true, ne_eqb, not_from_false, not-true}
 use Rattle.std.specs.List.{AllByRecursion as All}
 
 -- a cell set for each row
@@ -29,7 +29,7 @@ module _ {A : Type 0} (n : ℕ) (place value : A → ℕ) where
   next_is next row h =
       let a = and_parts (leb next (place row)) _ h in
       let b = and_parts (ltb (place row) n) _ a.1 in
-      record { above = leb-true next (place row) a.0; within = ltb_true (place row) n b.0; full = eqb-false (value row) 0 (not-true (eqb (value row) 0) b.1) }
+      record { above = leb-true next (place row) a.0; within = ltb-true (place row) n b.0; full = eqb-false (value row) 0 (not-true (eqb (value row) 0) b.1) }
 
   is_next_lem : (next : ℕ) (row : A) → Next n place value next row → is_next_of n place value next row ≡ true
   is_next_lem next row h =

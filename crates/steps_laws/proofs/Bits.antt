@@ -8,7 +8,7 @@ use Rattle.quorum.specs.Sets.{inserted, is_in, is_most}
 use Rattle.quorum.specs.Tally.{noted, raised, takers}
 use Rattle.quorum.specs.declared.tally.Tally.{Tally}
 use Rattle.std.proofs.lemmas.List.{get_or-set_other, get_or-set_same, set_past}
-use Rattle.std.proofs.lemmas.Bool.{and_parts, cases_eq, cases_lt, eqb-true, leb-true, ltb_false, ltb_true}
+use Rattle.std.proofs.lemmas.Bool.{and_parts, cases_eq, cases_lt, eqb-true, leb-true, ltb-false, ltb-true}
 use Rattle.store_laws.proofs.Lists.{zeros}
 use lib.Bits.{bit_and, bit_or, or_step, or_zero_r}
 use lib.Count.{ones}
@@ -26,7 +26,7 @@ pub is_member : (ms j : ℕ) → is_in ms j ≡ true → IsMember j ms
 is_member ms j h = eqb-true _ _ (and_parts (ltb j 16) (eqb ((ms / 2 ^ j) % 2) 1) h).1
 
 pub is_most_lem : (ms qs : ℕ) → is_most ms qs ≡ true → Most ms qs
-is_most_lem ms qs h = record { many = ltb_true (ones ms) (2 * ones (bit_and ms qs)) h }
+is_most_lem ms qs h = record { many = ltb-true (ones ms) (2 * ones (bit_and ms qs)) h }
 
 -- who is in a set with one more
 or_power : (i j s : ℕ) → IsMember j (bit_or s (2 ^ i)) → (j ≡ i) ⊎ IsMember j s
@@ -106,11 +106,11 @@ noted_said {air} {t} T b j k m S = go (ltb b T.ballot) refl (ltb T.ballot b) ref
 
     go : (x : Bool) → ltb b T.ballot ≡ x → (y : Bool) → ltb T.ballot b ≡ y →
         Said air t (max T.ballot b) (cond x T.took (raised j k (cond y (replicate 16 0) T.took)))
-    go true e y f = let l = ltb_true b T.ballot e in let z : max T.ballot b ≡ T.ballot = omega arith in rw z S
-    go false e true f = let l = ltb_false b T.ballot e in let z : max T.ballot b ≡ b = omega arith in rw z (raised_said (replicate 16 0) j k m none_said)
+    go true e y f = let l = ltb-true b T.ballot e in let z : max T.ballot b ≡ T.ballot = omega arith in rw z S
+    go false e true f = let l = ltb-false b T.ballot e in let z : max T.ballot b ≡ b = omega arith in rw z (raised_said (replicate 16 0) j k m none_said)
     go false e false f =
-        let l = ltb_false b T.ballot e in
-        let r = ltb_false T.ballot b f in
+        let l = ltb-false b T.ballot e in
+        let r = ltb-false T.ballot b f in
         let z : T.ballot ≡ b = omega arith in
         let y : max T.ballot b ≡ b = omega arith in
         rw y (raised_said T.took j k m (rw z at S))

@@ -7,7 +7,7 @@ use Rattle.council.specs.Quorum.{Sound}
 use Rattle.entry.specs.declared.entry.Entry.{Entry}
 use Rattle.entry.specs.declared.entry.Entry.TheVariants.{Call, Close}
 use Rattle.std.proofs.lemmas.List.{get_or-append_right, get_or_push, length-append, length_push, length-take-le, take_all, take-append-le, take_at, take_more, take_more_same, take-take}
-use Rattle.std.proofs.lemmas.Bool.{and_from, and_parts, cases_lt, eqb-false, eqb-true, false≢true, ltb_true, ne_eqb, not_from_false, not-true, or_cases, true≢false}
+use Rattle.std.proofs.lemmas.Bool.{and_from, and_parts, cases_lt, eqb-false, eqb-true, false≢true, ltb-true, ne_eqb, not_from_false, not-true, or_cases, true≢false}
 use Rattle.steps.specs.Heads.{agree, closes_at, council_of, ends_closed, has_place, last_of, names_council}
 use Rattle.steps.specs.Same.{same_ask, same_entry, same_request}
 use Rattle.store.specs.declared.ask.Ask.{Ask}
@@ -97,8 +97,8 @@ follows_from n log e long free h =
     record { unclosed = free; room = room (or_cases (ltb n 4095) (eqb n 4095 && is_close e) p.0); council = λ ms c. named ms (ap names_council (sym c.to) ∙ p.1) }
   where
     room : (ltb n 4095 ≡ true) ⊎ ((eqb n 4095 && is_close e) ≡ true) → (length log < 4095) ⊎ ((length log ≡ 4095) × (is_close e ≡ true))
-    room (inl l) = inl (omega (arith, ltb_true n 4095 l))
+    room (inl l) = inl (omega (arith, ltb-true n 4095 l))
     room (inr l) = let q = and_parts (eqb n 4095) (is_close e) l in inr (sym long ∙ eqb-true n 4095 q.0, q.1)
 
     named : (ms : ℕ) → names_council (Some ms) ≡ true → Sound ms
-    named ms y = let q = and_parts (ltb 0 ms) (ltb ms 65536) y in record { some = ltb_true 0 ms q.0; small = ltb_true ms 65536 q.1 }
+    named ms y = let q = and_parts (ltb 0 ms) (ltb ms 65536) y in record { some = ltb-true 0 ms q.0; small = ltb-true ms 65536 q.1 }

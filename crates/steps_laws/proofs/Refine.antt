@@ -10,7 +10,7 @@ use Rattle.message.specs.Letter.{Asks, Begins, Letter, Parts, Promises, Takes}
 use Rattle.quorum.specs.Sets.{is_most}
 use Rattle.quorum.specs.Tally.{takers}
 use Rattle.std.proofs.lemmas.List.{drop_at, length-append, length_push, take_all}
-use Rattle.std.proofs.lemmas.Bool.{cases_lt, eqb-true, ltb_true}
+use Rattle.std.proofs.lemmas.Bool.{cases_lt, eqb-true, ltb-true}
 use Rattle.std.specs.List.{AllByRecursion as All}
 use Rattle.steps.specs.Heads.{closes_at, counts_from, counts_itself, last_of}
 use Rattle.steps.specs.Steps.{View, asks, begins, behind, closes, counts, decides, gets, gives, hears, leads, proposes, stops, takes}
@@ -49,7 +49,7 @@ module _ {air : List Msg} {v : View} {o : List Entry} (S : Stands air v o) where
             old = o;
             new = Begin v.head.term o v.head.members ∷ [];
             me = refl;
-            move = inr (Local.again (omega (arith, ltb_true t v.head.term e)));
+            move = inr (Local.again (omega (arith, ltb-true t v.head.term e)));
             stands = stands_more (Begin v.head.term o v.head.members ∷ []) S;
             means = ((o, Memᴰ.head refl, S.before, S.base), tt);
           }

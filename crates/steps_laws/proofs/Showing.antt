@@ -8,7 +8,7 @@ use Rattle.message.specs.Letter.{Asks, Begins, Letter, Parts, Promises, Takes}
 use Rattle.quorum.specs.Sets.{is_most}
 use Rattle.quorum.specs.Tally.{most_took}
 use Rattle.std.proofs.lemmas.List.{append_assoc, drop-take, get_or-take, length-append, length-take-le, take_at, take_more_set, take-take}
-use Rattle.std.proofs.lemmas.Bool.{and_left, and_parts, cases_eq, eq-eqb, eqb-true, leb-true, ltb_false, ltb_true, not-false, not_from_false, not_from_true, or_cases, or_left, or_parts, or_right}
+use Rattle.std.proofs.lemmas.Bool.{and_left, and_parts, cases_eq, eq-eqb, eqb-true, leb-true, ltb-false, ltb-true, not-false, not_from_false, not_from_true, or_cases, or_left, or_parts, or_right}
 use Rattle.steps.specs.Calls.{fits_part, live_after}
 use Rattle.steps.specs.Heads.{agree, begin_head, close_head, closes_at, council_of, counts_from, counts_itself, decide_head, ends_closed, entered_head, give_head, grew_head, has_place, hear_head, is_better, joins, keeps_sure, last_of, lead_head, led_head, member, names_council, propose_head, take_head, took_head}
 use Rattle.steps.specs.Memory.{best_given, best_heard, copied, fits_best, fits_copy, fits_heard, fits_log, fits_more, fitting}
@@ -102,7 +102,7 @@ place_low : (n : ℕ) (e : Entry) → has_place n e ≡ true → n ≤ 4095
 place_low n e y = go (or_cases (ltb n 4095) (eqb n 4095 && is_close e) (and_parts (ltb n 4095 || (eqb n 4095 && is_close e)) (names_council (closes_to e)) y).0)
   where
     go : (ltb n 4095 ≡ true) ⊎ ((eqb n 4095 && is_close e) ≡ true) → n ≤ 4095
-    go (inl l) = omega (arith, ltb_true n 4095 l)
+    go (inl l) = omega (arith, ltb-true n 4095 l)
     go (inr l) = omega (arith, eqb-true n 4095 (and_parts (eqb n 4095) (is_close e) l).0)
 
 joins_within : (b p n : ℕ) (h : Head) → h.sure ≤ h.len → Joined b p n h → p ≤ h.len
@@ -250,7 +250,7 @@ module _ (h : Head) (log best : List Entry) (base live : Store) where
         fitted k (fits_log h (length log) && whole live) (decide_head n h) (decide_head n h) f refl
         (passes (Alike k) (not (eqb h.tally.ballot h.ballot) || bad) NotTaken _ (λ _. refl) (λ x.
         let y = or_parts (not (most_took h.members n h.tally)) (ltb h.len n) (or_parts (not (eqb h.tally.ballot h.ballot)) bad x).1 in
-        let low = ltb_false h.len n y.1 in
+        let low = ltb-false h.len n y.1 in
         same_done refl refl
         (ap (λ (l : List Entry). played live (requests_in l)) (fresh_shown h.sure (max h.sure n) h.len log fits.0 (omega (arith, fits.0, low))))));
     close = λ f.

@@ -8,7 +8,7 @@ use Rattle.council.specs.Rules.{Anything, Heard, Local, Msg, Promise, Station, U
 use Rattle.entry.specs.declared.entry.Entry.{Entry}
 use Rattle.message.specs.Letter.{Asks, Begins, Letter, Parts, Promises, Takes}
 use Rattle.quorum.specs.Sets.{inserted}
-use Rattle.std.proofs.lemmas.Bool.{cases_lt, and_parts, eqb-false, eqb-true, ltb_false, ltb_true, or_cases, or_parts, and_cases}
+use Rattle.std.proofs.lemmas.Bool.{cases_lt, and_parts, eqb-false, eqb-true, ltb-false, ltb-true, or_cases, or_parts, and_cases}
 use Rattle.std.specs.List.{AllByRecursion as All}
 use Rattle.steps.specs.Steps.{Done, Outcome, Refused, View}
 use Rattle.steps_laws.proofs.Bits.{Said, in_inserted, in_none, said_more}
@@ -86,8 +86,8 @@ hears_one {air} {t} {b} {heard} {had} {best} true from was k n l long more m G =
 
     -- the new log is better: nobody was heard, or all are no higher than the best so far, which is lower
     higher : (ltb had was ≡ true) ⊎ ((eqb had was && ltb k n) ≡ true) → Upto had (length best) was (length l)
-    higher (inl h) = inl (ltb_true had was h)
-    higher (inr h) = let p = and_parts (eqb had was) (ltb k n) h in inr (eqb-true had was p.0, omega (arith, ltb_true k n p.1))
+    higher (inl h) = inl (ltb-true had was h)
+    higher (inr h) = let p = and_parts (eqb had was) (ltb k n) h in inr (eqb-true had was p.0, omega (arith, ltb-true k n p.1))
 
     raise : (eqb heard 0 ≡ true) ⊎ ((ltb had was || (eqb had was && ltb k n)) ≡ true) → (j : ℕ) → IsMember j heard → Heard air t b j was (length l)
     raise (inl z) j h = absurd (in_none j (rw (eqb-true heard 0 z) at h))
@@ -95,12 +95,12 @@ hears_one {air} {t} {b} {heard} {had} {best} true from was k n l long more m G =
 
     -- or it is no better, and the best so far stays
     lower : ltb had was ≡ false → (eqb had was ≡ false) ⊎ (ltb k n ≡ false) → Upto was (length l) had (length best)
-    lower h (inl e) = let a = ltb_false had was h in let q = eqb-false had was e in inl (omega arith)
+    lower h (inl e) = let a = ltb-false had was h in let q = eqb-false had was e in inl (omega arith)
     lower h (inr e) = at (cases_lt was had)
       where
         at : (was < had) ⊎ (had ≤ was) → Upto was (length l) had (length best)
         at (inl lt) = inl lt
-        at (inr ge) = inr (omega (arith, ltb_false had was h), omega (arith, ltb_false k n e))
+        at (inr ge) = inr (omega (arith, ltb-false had was h), omega (arith, ltb-false k n e))
 
     either : {X : Type 0} {j : ℕ} → (j ≡ from → X) → (IsMember j heard → X) → (j ≡ from) ⊎ IsMember j heard → X
     either f g (inl e) = f e

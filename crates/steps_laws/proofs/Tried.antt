@@ -4,7 +4,7 @@ use Rattle.entry.specs.declared.entry.Entry.{Entry}
 use Rattle.message.specs.Letter.{Asks, Begins, Parts, Promises, Takes}
 use Rattle.quorum.specs.Sets.{is_most}
 use Rattle.quorum.specs.Tally.{most_took}
-use Rattle.std.proofs.lemmas.Bool.{and_parts, eqb-false, eqb-true, leb-false, leb-true, ltb_false, ltb_true, not-false, or_parts}
+use Rattle.std.proofs.lemmas.Bool.{and_parts, eqb-false, eqb-true, leb-false, leb-true, ltb-false, ltb-true, not-false, or_parts}
 use Rattle.steps.specs.Heads.{agree, asked_head, closes_at, counted_head, counts_from, counts_itself, ends_closed, entered_head, gave_head, grew_head, has_place, heard_head, is_better, joins, keeps_sure, led_head, member, sure_head, took_head}
 use Rattle.steps.specs.Steps.{Done, Laid, Outcome, Promised, Refused, Renewed, Settled, View, asks, begins, behind, closes, counts, decides, fresh, gives, hears, leads, on_head, proposes, takes, view}
 use Rattle.steps.specs.declared.head.Head.{Head}
@@ -64,7 +64,7 @@ joined b p n h = go (eqb b h.ballot) refl
   where
     go : (c : Bool) → eqb b h.ballot ≡ c → cond c (leb p h.len && leb h.len (p + n)) (ltb h.ballot b && leb p h.sure) ≡ true → Joined b p n h
     go true e y = let q = and_parts (leb p h.len) (leb h.len (p + n)) y in inl (sym (eqb-true b h.ballot e), leb-true p h.len q.0, leb-true h.len (p + n) q.1)
-    go false e y = let q = and_parts (ltb h.ballot b) (leb p h.sure) y in inr (ltb_true h.ballot b q.0, leb-true p h.sure q.1)
+    go false e y = let q = and_parts (ltb h.ballot b) (leb p h.sure) y in inr (ltb-true h.ballot b q.0, leb-true p h.sure q.1)
 
 -- entries that keep what is sure: they reach that far, and agree
 abbrev pub Agrees : ℕ → List Entry → List Entry → Head → Type 0
@@ -85,7 +85,7 @@ module _ (R : Outcome → Type 0) (v : View) where
       passes K (not (eqb (b % 16) v.head.me) || (leb b v.head.promised || ltb 4294967295 b)) NotOwn _ refused (λ n.
       let p = or_parts (not (eqb (b % 16) v.head.me)) (leb b v.head.promised || ltb 4294967295 b) n in
       let q = or_parts (leb b v.head.promised) (ltb 4294967295 b) p.1 in
-      done (not-false (member v.head) m) (same_term (b % 16) v.head.me p.0) (leb-false b v.head.promised q.0) (ltb_false 4294967295 b q.1)))
+      done (not-false (member v.head) m) (same_term (b % 16) v.head.me p.0) (leb-false b v.head.promised q.0) (ltb-false 4294967295 b q.1)))
 
   pub on_gives : (t b : ℕ) → ((r : Refusal) → R (Refused r (behind t v))) →
       (t ≡ v.head.term → member v.head ≡ true → v.head.promised ≤ b → v.head.ballot < b →
@@ -100,7 +100,7 @@ module _ (R : Outcome → Type 0) (v : View) where
       passes K (not (member v.head)) NoMember _ refused (λ m.
       passes K (ltb b v.head.promised || leb b v.head.ballot) BelowPromise _ refused (λ n.
       let p = or_parts (ltb b v.head.promised) (leb b v.head.ballot) n in
-      done (same_term t v.head.term e) (not-false (member v.head) m) (ltb_false b v.head.promised p.0) (leb-false b v.head.ballot p.1))))
+      done (same_term t v.head.term e) (not-false (member v.head) m) (ltb-false b v.head.promised p.0) (leb-false b v.head.ballot p.1))))
 
   pub on_hears : (t b from had : ℕ) (l : List Entry) → ((r : Refusal) → R (Refused r (behind t v))) →
       (t ≡ v.head.term → b ≡ v.head.asking → R (Done (heard_view from had l v) [] [])) → R (hears t b from had l v)
@@ -162,7 +162,7 @@ module _ (R : Outcome → Type 0) (v : View) where
       passes K (ltb b v.head.promised || not (joins b p (length es) v.head)) NoJoin _ refused (λ n.
       passes K (not (keeps_sure p es v.log v.head)) NoJoin _ refused (λ a.
       let q = or_parts (ltb b v.head.promised) (not (joins b p (length es) v.head)) n in
-      done (same_term t v.head.term e) (not-false (member v.head) m) (ltb_false b v.head.promised q.0)
+      done (same_term t v.head.term e) (not-false (member v.head) m) (ltb-false b v.head.promised q.0)
       (joined b p (length es) v.head (not-false (joins b p (length es) v.head) q.1)) (agrees p es v.log v.head a)))))
 
   pub on_counts : (t b from n : ℕ) → ((r : Refusal) → R (Refused r (behind t v))) → (t ≡ v.head.term → R (Done (counted_view b from n v) [] [])) → R (counts t b from n v)
@@ -180,7 +180,7 @@ module _ (R : Outcome → Type 0) (v : View) where
       passes K (not (eqb v.head.tally.ballot v.head.ballot) || (not (most_took v.head.members k v.head.tally) || ltb v.head.len k)) NotTaken _ refused (λ n.
       let p = or_parts (not (eqb v.head.tally.ballot v.head.ballot)) (not (most_took v.head.members k v.head.tally) || ltb v.head.len k) n in
       let q = or_parts (not (most_took v.head.members k v.head.tally)) (ltb v.head.len k) p.1 in
-      done (same_term v.head.tally.ballot v.head.ballot p.0) (not-false (most_took v.head.members k v.head.tally) q.0) (ltb_false v.head.len k q.1))
+      done (same_term v.head.tally.ballot v.head.ballot p.0) (not-false (most_took v.head.members k v.head.tally) q.0) (ltb-false v.head.len k q.1))
 
   pub on_closes : ((r : Refusal) → R (Refused r [])) →
       (v.head.sure ≡ v.head.len → ends_closed v.head.len v.log ≡ true → v.head.term < 65535 →

@@ -1,7 +1,7 @@
 -- What one request does to its own client's row and to the others', whatever it asks.
 use Rattle.std.proofs.Common.{◌≡◌, ℕ, ◌+◌, ◌-◌, ◌<◌, Bool, true, false, cond, not, ◌&&◌, eqb, ltb, length, set, is_ok, Ok, Err, sym, refl, ap, ◌∙◌, arith}
 use Rattle.std.proofs.lemmas.List.{get_or-set_same, get_or-set_other}
-use Rattle.std.proofs.lemmas.Bool.{and_parts, cond-true, eqb-true, false≢true, ltb_false, ltb_true}
+use Rattle.std.proofs.lemmas.Bool.{and_parts, cond-true, eqb-true, false≢true, ltb-false, ltb-true}
 use Rattle.store.specs.Ask.{key_of, leaves, says}
 use Rattle.store.specs.Store.{Store, applied, done, is_next, last, outcome, shelf, tables, whole, word}
 use Rattle.store.specs.declared.refusal.Refusal.TheVariants.{Key, NotNext, Tables}
@@ -65,11 +65,11 @@ done_is r s h =
     let p = passed (whole s) (ltb 1023 (key_of r.ask)) (is_next r s) Tables Key NotNext x h in
     let l = lengths s p.first in
     let n = and_parts (ltb r.client 256) (eqb r.number (last s r.client + 1)) p.third in
-    let c = ltb_true r.client 256 n.0 in
+    let c = ltb-true r.client 256 n.0 in
     let e = cond-true (done r s) (after r s) s h in
     record {
       whole = p.first;
-      key = omega (arith, ltb_false 1023 (key_of r.ask) p.second);
+      key = omega (arith, ltb-false 1023 (key_of r.ask) p.second);
       client = c;
       number = eqb-true _ _ n.1;
       after = e;

@@ -18,7 +18,7 @@ loop-client-preserved c =
           left_put _ w.client_bytes.result _ _ c.if-last-ne0.next _ c.if-last-ne0.out _ _ _ c.loop-client.invariant e (search rules) (search rules) (search rules)
       | else-last-ne0 w ↦
           let e = empty_place client_bytes (client_row c.args.words.now) c.args.lasts.now i (search rules) (search rules) in
-          left_skip _ _ _ _ _ _ _ _ _ e w.next_is w.out-is c.loop-client.invariant
+          left_skip _ _ _ _ _ _ _ _ _ e w.next-is w.out-is c.loop-client.invariant
     ]
 
 pub returns : goal.returns

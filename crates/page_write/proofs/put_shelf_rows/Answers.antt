@@ -18,7 +18,7 @@ loop-key-preserved c =
           left_put _ w.shelf_bytes.result _ _ c.if-number-ne0.next _ c.if-number-ne0.out _ _ _ c.loop-key.invariant e (search rules) (search rules) (search rules)
       | else-number-ne0 w ↦
           let e = empty_place shelf_bytes shelf_row c.args.shelves.now i (search rules) (search rules) in
-          left_skip _ _ _ _ _ _ _ _ _ e w.next_is w.out-is c.loop-key.invariant
+          left_skip _ _ _ _ _ _ _ _ _ e w.next-is w.out-is c.loop-key.invariant
     ]
 
 pub returns : goal.returns
