@@ -6,5 +6,5 @@ use Rattle.std.proofs.Common.{[], ◌∷◌, ◌++◌, string_bytes, codes, rule
 pub returns : goal.returns
 unfolding call_text
 returns c =
-    three (string_bytes c.push-str.new.self) (string_bytes c.push-ask.new.out) _ (string_bytes c.args.out.now) (field (codes "entry ") c.args.request.client ++ (field (codes " ") c.args.request.number ++ codes " "))
-    (ask_text c.args.request.ask) (10 ∷ []) (search rules) c.in-ok-push-ask.ensures c.in-ok-push-str-2.ensures.bytes
+    three (string_bytes c.push_str.new.self) (string_bytes c.push_ask.new.out) _ (string_bytes c.args.out.now) (field (codes "entry ") c.args.request.client ++ (field (codes " ") c.args.request.number ++ codes " "))
+    (ask_text c.args.request.ask) (10 ∷ []) (search rules) c.in_ok-push_ask.ensures c.in_ok-push_str-2.ensures.bytes

@@ -6,5 +6,5 @@ use Rattle.std.proofs.Common.{[], ◌∷◌, ◌++◌, string_bytes, codes, rule
 pub returns : goal.returns
 unfolding begin_text
 returns c =
-    three (string_bytes c.push-str.new.self) (string_bytes c.push-members.new.out) _ (string_bytes c.args.out.now) (field (codes "begin term ") c.args.term ++ codes " members ") (members_text c.args.members)
-    (field (codes " before ") c.args.before ++ (10 ∷ [])) (search rules) c.in-ok-push-members.ensures (search rules)
+    three (string_bytes c.push_str.new.self) (string_bytes c.push_members.new.out) _ (string_bytes c.args.out.now) (field (codes "begin term ") c.args.term ++ codes " members ") (members_text c.args.members)
+    (field (codes " before ") c.args.before ++ (10 ∷ [])) (search rules) c.in_ok-push_members.ensures (search rules)

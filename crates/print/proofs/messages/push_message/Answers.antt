@@ -6,5 +6,5 @@ use Rattle.store.specs.Store.{lent}
 
 pub returns : goal.returns
 returns c =
-    three (string_bytes c.push-str.new.self) (string_bytes c.push-head.new.out) _ (string_bytes c.args.out.now) (decimal c.args.line ++ codes " ") (head_text c.args.message)
-    (body_text c.args.message c.args.log.now (lent c.args.shelves.now c.args.lasts.now c.args.words.now)) (search rules) c.in-ok-push-head.ensures c.in-ok-push-body.ensures
+    three (string_bytes c.push_str.new.self) (string_bytes c.push_head.new.out) _ (string_bytes c.args.out.now) (decimal c.args.line ++ codes " ") (head_text c.args.message)
+    (body_text c.args.message c.args.log.now (lent c.args.shelves.now c.args.lasts.now c.args.words.now)) (search rules) c.in_ok-push_head.ensures c.in_ok-push_body.ensures

@@ -6,5 +6,5 @@ use Rattle.std.proofs.Common.{◌++◌, string_bytes, codes, rules}
 pub returns : goal.returns
 unfolding promise_text
 returns c =
-    two (string_bytes c.push-str.new.self) _ (string_bytes c.args.out.now) (field (codes "promise term ") c.args.term ++ field (codes " ballot ") c.args.ballot)
-    (log_text c.args.from c.args.had c.args.count) (search rules) c.in-ok-push-log.ensures
+    two (string_bytes c.push_str.new.self) _ (string_bytes c.args.out.now) (field (codes "promise term ") c.args.term ++ field (codes " ballot ") c.args.ballot)
+    (log_text c.args.from c.args.had c.args.count) (search rules) c.in_ok-push_log.ensures
