@@ -2,11 +2,11 @@
 #![tactic(auto)]
 
 mod answer;
-mod entries;
+mod entry_lines;
 mod messages;
 mod tables;
 
 pub use answer::{Answer, push_answer};
-pub use entries::{push_entries, push_entry, push_members};
+pub use entry_lines::{push_entries, push_entry, push_members};
 pub use messages::push_message;
 pub use tables::push_store;

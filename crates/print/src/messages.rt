@@ -3,7 +3,7 @@ ghost use Rattle.print.specs.Messages.{begin_text, body_text, head_text, log_tex
 ghost use Rattle.std.specs.Prelude.{◌≡◌, ◌++◌, take, drop, string_bytes, OnOk};
 ghost use Rattle.store.specs.Store.{lent};
 
-use crate::entries::{push_entries, push_members};
+use crate::entry_lines::{push_entries, push_members};
 use crate::tables::push_store;
 use entry::Entry;
 use message::Message;

@@ -2,17 +2,17 @@ use Rattle.print.proofs.messages.push_head.Goals as goal
 use Rattle.print.specs.Messages.{head_text}
 use Rattle.std.proofs.Common.{rules}
 
-pub returns-in_ok-format : goal.returns-in_ok-format
+pub returns-in_ok-format-in-Ask : goal.returns-in_ok-format-in-Ask
 unfolding head_text
-returns-in_ok-format c = search rules
+returns-in_ok-format-in-Ask c = search rules
 
-pub returns-in_ok-format-2 : goal.returns-in_ok-format-2
+pub returns-in_ok-format-in-Part : goal.returns-in_ok-format-in-Part
 unfolding head_text
-returns-in_ok-format-2 c = search rules
+returns-in_ok-format-in-Part c = search rules
 
-pub returns-in_ok-format-3 : goal.returns-in_ok-format-3
+pub returns-in_ok-format-in-Took : goal.returns-in_ok-format-in-Took
 unfolding head_text
-returns-in_ok-format-3 c = search rules
+returns-in_ok-format-in-Took c = search rules
 
 pub returns-in-Promise : goal.returns-in-Promise
 unfolding head_text

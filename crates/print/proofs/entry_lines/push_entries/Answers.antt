@@ -1,5 +1,5 @@
 use Rattle.print.proofs.Printed.{all_of, more}
-use Rattle.print.proofs.entries.push_entries.Goals as goal
+use Rattle.print.proofs.entry_lines.push_entries.Goals as goal
 use Rattle.print.specs.Messages.{entry_text}
 use Rattle.std.proofs.Common.{rules}
 

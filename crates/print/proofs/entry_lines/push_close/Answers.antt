@@ -1,5 +1,5 @@
 use Rattle.print.proofs.Printed.{three}
-use Rattle.print.proofs.entries.push_close.Goals as goal
+use Rattle.print.proofs.entry_lines.push_close.Goals as goal
 use Rattle.print.specs.Messages.{close_text, members_text}
 use Rattle.std.proofs.Common.{[], ◌∷◌, string_bytes, codes}
 

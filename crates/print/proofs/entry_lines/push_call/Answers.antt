@@ -1,5 +1,5 @@
 use Rattle.print.proofs.Printed.{three}
-use Rattle.print.proofs.entries.push_call.Goals as goal
+use Rattle.print.proofs.entry_lines.push_call.Goals as goal
 use Rattle.print.specs.Messages.{ask_text, call_text, field}
 use Rattle.std.proofs.Common.{[], ◌∷◌, ◌++◌, string_bytes, codes, rules}
 

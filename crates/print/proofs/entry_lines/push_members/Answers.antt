@@ -1,4 +1,4 @@
-use Rattle.print.proofs.entries.push_members.Goals as goal
+use Rattle.print.proofs.entry_lines.push_members.Goals as goal
 use Rattle.print.specs.Messages.{members_text}
 use Rattle.std.proofs.Common.{rules}
 

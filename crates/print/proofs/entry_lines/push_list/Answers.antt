@@ -1,5 +1,5 @@
 use Rattle.print.proofs.Printed.{rows_all, rows_more}
-use Rattle.print.proofs.entries.push_list.Goals as goal
+use Rattle.print.proofs.entry_lines.push_list.Goals as goal
 use Rattle.print.specs.Messages.{member_text}
 
 pub loop-i-preserved : goal.loop-i-preserved

@@ -1,4 +1,4 @@
-use Rattle.print.proofs.entries.push_list.Given as goal
+use Rattle.print.proofs.entry_lines.push_list.Given as goal
 use Rattle.print.specs.Messages.{member_text}
 use Rattle.print.specs.Rows.{rows}
 use Rattle.std.proofs.Common.{◌≡◌, ◌++◌, drop, string_bytes}

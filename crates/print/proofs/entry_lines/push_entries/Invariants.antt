@@ -1,5 +1,5 @@
 use Rattle.wire.specs.Several.{joined}
-use Rattle.print.proofs.entries.push_entries.Given as goal
+use Rattle.print.proofs.entry_lines.push_entries.Given as goal
 use Rattle.print.specs.Messages.{entry_text}
 use Rattle.std.proofs.Common.{◌≡◌, ◌++◌, length, string_bytes}
 
