@@ -5,8 +5,8 @@ use Rattle.store.specs.Store.{tables}
 
 pub loop-rest-preserved : goal.loop-rest-preserved
 loop-rest-preserved c = (
-  line_more (c.loop-rest.number + 1) (tables c.loop-rest.shelves c.loop-rest.lasts c.loop-rest.words) _ c.loop-rest.rest.now _ _ _ _ _ (search rules) c.split-once.ensures.front c.split-once.ensures.back
-      c.play.ensures.store c.in-ok-play.ensures.text c.loop-rest.invariant.0,
+  line_more (c.loop-rest.number + 1) (tables c.loop-rest.shelves c.loop-rest.lasts c.loop-rest.words) _ c.loop-rest.rest.now _ _ _ _ _ (search rules) c.split_once.ensures.front c.split_once.ensures.back
+      c.play.ensures.store c.in_ok-play.ensures.text c.loop-rest.invariant.0,
   search rules,
 )
 
