@@ -1,2 +1,4 @@
+pub mod Judging
 mod Rooms
-mod Filling
+mod Layers
+mod Lockstep

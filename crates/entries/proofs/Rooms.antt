@@ -2,7 +2,6 @@
 use Rattle.std.proofs.Common.{◌≡◌, ℕ, ◌+◌, ◌≤◌, ltb, List, [], ◌∷◌, ◌++◌, length, take, drop, sym, ap, ◌∙◌, add-zero, arith}
 use Rattle.wire.proofs.Over.{placed_placed}
 use Rattle.wire.specs.Bytes.{over, placed_at}
-use Rattle.wire.specs.Several.{joined}
 use Rattle.entry.specs.Entry.{entry_bytes}
 use Rattle.entry.specs.declared.entry.Entry.{Entry}
 use Rattle.entries.specs.Entries.{entries_bytes}
@@ -11,16 +10,16 @@ use Rattle.std.proofs.lemmas.Bool.{cond-false, le-ltb}
 
 -- the first and the others
 pub size_more : (rest es : List Entry) (e : Entry) → rest ≡ e ∷ es → length (entries_bytes rest) ≡ length (entry_bytes e) + length (entries_bytes es)
-unfolding joined
+unfolding entries_bytes
 size_more rest es e h = ap (λ (l : List Entry). length (entries_bytes l)) h ∙ length-append (entry_bytes e) (entries_bytes es)
 
 pub size_none : (rest : List Entry) → length rest ≡ 0 → entries_bytes rest ≡ []
-unfolding joined
+unfolding entries_bytes
 size_none rest h = ap entries_bytes (nil_from_length rest h)
 
 pub placed_more : (out is : List ℕ) (at next : ℕ) (rest es : List Entry) (e : Entry) (all : List ℕ) → rest ≡ e ∷ es → at + length (entries_bytes rest) ≤ length out → is ≡ placed_at out at (entry_bytes e) → next ≡ at + length (entry_bytes e) →
     placed_at out at (entries_bytes rest) ≡ all → placed_at is next (entries_bytes es) ≡ all
-unfolding joined
+unfolding entries_bytes
 placed_more out is at next rest es e all h room w n inv =
     let k = size_more rest es e h in
     ap (λ (l : List ℕ). placed_at l next (entries_bytes es)) w ∙ ap (λ (m : ℕ). placed_at (placed_at out at (entry_bytes e)) m (entries_bytes es)) n ∙ placed_placed out (entry_bytes e) (entries_bytes es) at (omega arith) ∙

@@ -10,7 +10,7 @@ use wire::put;
 pub const LOG: u16 = 4096;
 
 // How many bytes some entries take.
-fn entries_size(entries: &[Entry]) -> usize
+pub fn entries_size(entries: &[Entry]) -> usize
     requires { length entries.now ≤ 4096 }
     ensures size { result ≡ length (entries_bytes entries.now) }
     ensures bound { result ≤ 18 * length entries.now }
@@ -25,7 +25,7 @@ fn entries_size(entries: &[Entry]) -> usize
 }
 
 // Writes entries where there is room for all of them, and says where they end.
-fn put_entries(entries: &[Entry], out: &mut [u8], at: usize) -> usize
+pub fn put_entries(entries: &[Entry], out: &mut [u8], at: usize) -> usize
     requires { at + length (entries_bytes entries.now) ≤ length out.old }
     ensures end { result ≡ at + length (entries_bytes entries.now) }
     ensures bytes { out.new ≡ placed_at out.old at (entries_bytes entries.now) }

@@ -1,5 +1,5 @@
 use Rattle.wire.proofs.Turns.{front_cut, front_more, front_none, rest_cut, rest_more, rest_none}
-use Rattle.entries.proofs.Filling.{laid_more, laid_none}
+use Rattle.entries.proofs.Layers.{laid_more, laid_none}
 use Rattle.entries.proofs.reading.load_entries.Goals as goal
 use Rattle.entries.specs.Entries.{entries_in, laid}
 use Rattle.entry.specs.Entry.{entry_of}
