@@ -11,7 +11,7 @@ use Rattle.std.proofs.lemmas.List.{append_assoc}
 use Rattle.std.proofs.lemmas.Bool.{cases_eq}
 use Rattle.store.specs.Store.{Store, bare, last, outcome, played, word}
 use Rattle.store.specs.declared.request.Request.{Request}
-use Rattle.store_laws.proofs.Lists.{in_turn, word_got, played_append, zeros}
+use Rattle.store_laws.proofs.Lists.{in_turn, keeps_word, played_append, zeros}
 
 pub requests_append : (a b : List Entry) → requests_in (a ++ b) ≡ requests_in a ++ requests_in b
 unfolding requests_in
@@ -27,7 +27,7 @@ made_append a b = ap (played bare) (requests_append a b) ∙ played_append bare 
 word_stays : {a b : List Entry} (c : ℕ) → Prefix a b → last (made a) c ≡ last (made b) c → word (made a) c ≡ word (made b) c
 word_stays {a} c p e =
     let is = ap made p.is ∙ made_append a p.rest in
-    sym (ap (λ (s : Store). word s c) is ∙ (word_got (made a) (requests_in p.rest) c).1 (sym (e ∙ ap (λ (s : Store). last s c) is)))
+    sym (ap (λ (s : Store). word s c) is ∙ (keeps_word (made a) (requests_in p.rest) c).1 (sym (e ∙ ap (λ (s : Store). last s c) is)))
 
 word_same : {a b : List Entry} (c : ℕ) → Line a b → last (made a) c ≡ last (made b) c → word (made a) c ≡ word (made b) c
 word_same c (inl p) e = word_stays c p e
@@ -58,7 +58,7 @@ split_at (Close ms ∷ es) before r after e =
 placed : (a line : List Entry) (c k : ℕ) → Prefix a line → 1 ≤ k → last (made a) c ≡ k → Placed line c k (word (made a) c)
 placed a line c k p h e =
     let none : last bare c ≡ 0 = zeros 256 c in
-    let g = (word_got bare (requests_in a) c).0 (omega arith) in
+    let g = (keeps_word bare (requests_in a) c).0 (omega arith) in
     let s = split_at a g.before g.request g.after g.split in
     record {
       before = s.front;

@@ -1,3 +1,4 @@
 mod Unknowns
 mod Parts
 pub mod Limits
+pub mod Whole

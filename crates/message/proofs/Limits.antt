@@ -7,7 +7,7 @@ use Rattle.wire.specs.declared.fault.Fault.TheVariants.{Malformed, OutOfRange}
 use Rattle.entry.specs.Members.{members_of}
 use Rattle.entry.specs.declared.entry.Entry.{Entry}
 use Rattle.message.specs.Loading.{has_room}
-use Rattle.message.specs.Message.{ask_of, begin_of, body_of, ended_to, head_of, opened_in, opened_to, part_of, promise_of, took_of}
+use Rattle.message.specs.Message.{head_of_ask, head_of_begin, body_of, ended_to, head_of, opened_in, opened_to, head_of_part, head_of_promise, head_of_took}
 use Rattle.message.specs.declared.head.Judged.{Judged}
 use Rattle.message.specs.declared.head.Message.{Message}
 use Rattle.message.specs.declared.head.Message.TheVariants.{Ask, Begin, Part, Promise, Took}
@@ -37,13 +37,13 @@ either false x y z e = inr e
 abbrev Fine : Judged → Type 0
 Fine j = Within j.message
 
-ask_within : (bs : List ℕ) (j : Judged) (body : List ℕ) → ask_of bs ≡ Some (j, body) → Fine j
+ask_within : (bs : List ℕ) (j : Judged) (body : List ℕ) → head_of_ask bs ≡ Some (j, body) → Fine j
 ask_within bs j body e =
     let s = split (two bs) _ (j, body) e in
     let t = split (four s.rest) _ (j, body) s.second in
     subst Fine (same_value t.second) tt
 
-promise_within : (bs : List ℕ) (j : Judged) (body : List ℕ) → promise_of bs ≡ Some (j, body) → Fine j
+promise_within : (bs : List ℕ) (j : Judged) (body : List ℕ) → head_of_promise bs ≡ Some (j, body) → Fine j
 promise_within bs j body e =
     let s = split (two bs) _ (j, body) e in
     let t = split (four s.rest) _ (j, body) s.second in
@@ -53,7 +53,7 @@ promise_within bs j body e =
     let k = kept w.value _ (j, body) w.second in
     subst Fine (same_value k.1) k.0
 
-part_within : (bs : List ℕ) (j : Judged) (body : List ℕ) → part_of bs ≡ Some (j, body) → Fine j
+part_within : (bs : List ℕ) (j : Judged) (body : List ℕ) → head_of_part bs ≡ Some (j, body) → Fine j
 part_within bs j body e =
     let s = split (two bs) _ (j, body) e in
     let t = split (four s.rest) _ (j, body) s.second in
@@ -62,7 +62,7 @@ part_within bs j body e =
     let k = kept (u.value + v.value) _ (j, body) v.second in
     subst Fine (same_value k.1) k.0
 
-took_within : (bs : List ℕ) (j : Judged) (body : List ℕ) → took_of bs ≡ Some (j, body) → Fine j
+took_within : (bs : List ℕ) (j : Judged) (body : List ℕ) → head_of_took bs ≡ Some (j, body) → Fine j
 took_within bs j body e =
     let s = split (two bs) _ (j, body) e in
     let t = split (four s.rest) _ (j, body) s.second in
@@ -71,7 +71,7 @@ took_within bs j body e =
     let k = kept v.value _ (j, body) v.second in
     subst Fine (same_value k.1) k.0
 
-begin_within : (bs : List ℕ) (j : Judged) (body : List ℕ) → begin_of bs ≡ Some (j, body) → Fine j
+begin_within : (bs : List ℕ) (j : Judged) (body : List ℕ) → head_of_begin bs ≡ Some (j, body) → Fine j
 begin_within bs j body e =
     let s = split (two bs) _ (j, body) e in
     let t = split (members_of s.rest) _ (j, body) s.second in
@@ -86,11 +86,11 @@ head_within bs j body e =
     (λ f. ⊎_elim (promise_within s.rest j body)
     (λ g. ⊎_elim (part_within s.rest j body)
     (λ h. ⊎_elim (took_within s.rest j body)
-    (λ i. ⊎_elim (begin_within s.rest j body) (λ n. absurd (none_some n)) (either (eqb k 7) (begin_of s.rest) None (Some (j, body)) i))
-    (either (eqb k 6) (took_of s.rest) _ (Some (j, body)) h))
-    (either (eqb k 5) (part_of s.rest) _ (Some (j, body)) g))
-    (either (eqb k 4) (promise_of s.rest) _ (Some (j, body)) f))
-    (either (eqb k 3) (ask_of s.rest) _ (Some (j, body)) s.second)
+    (λ i. ⊎_elim (begin_within s.rest j body) (λ n. absurd (none_some n)) (either (eqb k 7) (head_of_begin s.rest) None (Some (j, body)) i))
+    (either (eqb k 6) (head_of_took s.rest) _ (Some (j, body)) h))
+    (either (eqb k 5) (head_of_part s.rest) _ (Some (j, body)) g))
+    (either (eqb k 4) (head_of_promise s.rest) _ (Some (j, body)) f))
+    (either (eqb k 3) (head_of_ask s.rest) _ (Some (j, body)) s.second)
 
 err_ok : {A : Type 0} {f : Fault} {a : A} → ◌≡◌ {A = Result A Fault} (Err f) (Ok a) → ⊥
 err_ok h = let z : ◌≡◌ {A = ℕ} 0 1 = cc in omega arith

@@ -1,6 +1,6 @@
 // The head of a message: its kind, and all that stands before its entries or its page.
 ghost use Rattle.wire.specs.Bytes.{seen};
-ghost use Rattle.message.specs.Message.{ask_of, begin_of, head_of, part_of, promise_of, took_of};
+ghost use Rattle.message.specs.Message.{head_of_ask, head_of_begin, head_of, head_of_part, head_of_promise, head_of_took};
 ghost use Rattle.std.specs.Prelude.{◌≡◌};
 
 use crate::head::{Judged, Message};
@@ -9,7 +9,7 @@ use entry::read_members;
 use wire::{read_u8, read_u16, read_u32};
 
 fn read_ask(bytes: &[u8]) -> Option<(Judged, &[u8])>
-    ensures { seen result ≡ ask_of bytes.now }
+    ensures { seen result ≡ head_of_ask bytes.now }
 {
     let (term, rest) = read_u16(bytes)?;
     let (ballot, rest) = read_u32(rest)?;
@@ -23,7 +23,7 @@ fn read_ask(bytes: &[u8]) -> Option<(Judged, &[u8])>
 }
 
 fn read_promise(bytes: &[u8]) -> Option<(Judged, &[u8])>
-    ensures { seen result ≡ promise_of bytes.now }
+    ensures { seen result ≡ head_of_promise bytes.now }
 {
     let (term, rest) = read_u16(bytes)?;
     let (ballot, rest) = read_u32(rest)?;
@@ -50,7 +50,7 @@ fn read_promise(bytes: &[u8]) -> Option<(Judged, &[u8])>
 }
 
 fn read_part(bytes: &[u8]) -> Option<(Judged, &[u8])>
-    ensures { seen result ≡ part_of bytes.now }
+    ensures { seen result ≡ head_of_part bytes.now }
 {
     let (term, rest) = read_u16(bytes)?;
     let (ballot, rest) = read_u32(rest)?;
@@ -75,7 +75,7 @@ fn read_part(bytes: &[u8]) -> Option<(Judged, &[u8])>
 }
 
 fn read_took(bytes: &[u8]) -> Option<(Judged, &[u8])>
-    ensures { seen result ≡ took_of bytes.now }
+    ensures { seen result ≡ head_of_took bytes.now }
 {
     let (term, rest) = read_u16(bytes)?;
     let (ballot, rest) = read_u32(rest)?;
@@ -101,7 +101,7 @@ fn read_took(bytes: &[u8]) -> Option<(Judged, &[u8])>
 
 // Its page says first how many entries stand before, and is still to be read whole.
 fn read_begin(bytes: &[u8]) -> Option<(Judged, &[u8])>
-    ensures { seen result ≡ begin_of bytes.now }
+    ensures { seen result ≡ head_of_begin bytes.now }
 {
     let (term, rest) = read_u16(bytes)?;
     let (members, page) = read_members(rest)?;

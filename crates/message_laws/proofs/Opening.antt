@@ -11,7 +11,7 @@ use Rattle.entry.specs.Entry.{Raw, entry_of, found_in, raw_of}
 use Rattle.entry.specs.Members.{list_of, members_in}
 use Rattle.entry.specs.declared.members.Members.{Members}
 use Rattle.entry.specs.declared.read.Found.{Found}
-use Rattle.message.specs.Message.{ask_of, begin_of, ended_to, judged, opened_in, opened_to, part_of, promise_of, took_of}
+use Rattle.message.specs.Message.{head_of_ask, head_of_begin, ended_to, judged, opened_in, opened_to, head_of_part, head_of_promise, head_of_took}
 use Rattle.message.specs.declared.head.Judged.{Judged}
 use Rattle.message.specs.declared.head.Message.{Message}
 use Rattle.message.specs.declared.head.Message.TheVariants.{Ask, Begin, Part, Promise, Took}
@@ -78,10 +78,10 @@ is_form m body rest w e f =
     ended m body (eqb (length rest) 0) (in_range w) ∙ ap (λ (n : Message). cond (eqb (length rest) 0) (cond (in_range w) (Ok (n, letter_with m body)) (Err OutOfRange)) (Err Malformed)) e ∙
     ap (λ (l : Letter). cond (eqb (length rest) 0) (cond (in_range w) (Ok (head_of_letter (letter_from w), l)) (Err OutOfRange)) (Err Malformed)) f
 
-ask_opened : (bs : List ℕ) → opened (ask_of bs) ≡ formed (raw_ask_of bs)
+ask_opened : (bs : List ℕ) → opened (head_of_ask bs) ≡ formed (raw_ask_of bs)
 ask_opened bs = next (two bs) _ _ (λ term bs. next (four bs) _ _ (λ ballot bs. is_form (Ask term ballot) bs bs (RawAsks term ballot) refl refl))
 
-took_opened : (bs : List ℕ) → opened (took_of bs) ≡ formed (raw_took_of bs)
+took_opened : (bs : List ℕ) → opened (head_of_took bs) ≡ formed (raw_took_of bs)
 took_opened bs =
     next (two bs) _ _ (λ term bs. next (four bs) _ _ (λ ballot bs. next (one bs) _ _ (λ from bs. next (two bs) _ _ (λ count bs.
     either (ltb 4096 count) _ _ _ _ refl (is_form (Took term ballot from count) bs bs (RawTakes term ballot from count) refl refl)))))
@@ -120,14 +120,14 @@ module _ (m : Message) (ok : Bool) (count : ℕ) (bs : List ℕ) (make : List Ra
 long_as : (count : ℕ) (log : List Raw) → length log ≡ count → count ≡ length (entries_in (map found_in log))
 long_as count log e = sym (length-map (map found_in log) (λ f. f.entry) ∙ length-map log found_in ∙ e)
 
-promise_opened : (bs : List ℕ) → opened (promise_of bs) ≡ formed (raw_promise_of bs)
+promise_opened : (bs : List ℕ) → opened (head_of_promise bs) ≡ formed (raw_promise_of bs)
 promise_opened bs =
     next (two bs) _ _ (λ term bs. next (four bs) _ _ (λ ballot bs. next (one bs) _ _ (λ from bs. next (four bs) _ _ (λ had bs. next (two bs) _ _ (λ count bs.
     either (ltb 4096 count) _ _ _ _ refl
     (entries_opened (Promise term ballot from had count) (ltb from 16) count bs (RawPromises term ballot from had) (λ log e. ap (Promise term ballot from had) (long_as count log e))
     (λ log e. ap (λ (fs : List Found). Promises term ballot from had (entries_in fs)) e) (λ log. refl)))))))
 
-part_opened : (bs : List ℕ) → opened (part_of bs) ≡ formed (raw_part_of bs)
+part_opened : (bs : List ℕ) → opened (head_of_part bs) ≡ formed (raw_part_of bs)
 part_opened bs =
     next (two bs) _ _ (λ term bs. next (four bs) _ _ (λ ballot bs. next (two bs) _ _ (λ place bs. next (two bs) _ _ (λ count bs.
     either (ltb 4096 (place + count)) _ _ _ _ refl
@@ -162,7 +162,7 @@ members_next : (o : Read (List ℕ)) (k : Members → List ℕ → Read Judged) 
 members_next None k l h = refl
 members_next (Some p) k l h = h p.0 p.1
 
-begin_opened : (bs : List ℕ) → opened (begin_of bs) ≡ formed (raw_begin_of bs)
+begin_opened : (bs : List ℕ) → opened (head_of_begin bs) ≡ formed (raw_begin_of bs)
 begin_opened bs = next (two bs) _ _ (λ term bs. members_next (list_of bs) _ _ (λ ms bs. page_opened term ms bs (four bs) (raw_page_of bs) refl refl))
 
 pub opened_is : (bs : List ℕ) → with_letter (opened_in bs) ≡ formed (raw_letter_of bs)

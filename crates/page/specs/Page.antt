@@ -1,8 +1,10 @@
 -- Pages: a store as bytes.
-use Rattle.std.specs.Prelude.{ℕ, ◌+◌, ◌*◌, cond, ◌&&◌, List, ◌++◌, length, replicate, Some, None, Option}
+use Rattle.std.specs.Prelude.{ℕ, ◌+◌, ◌*◌, cond, ◌&&◌, List, ◌++◌, length, replicate, Some, None, Option, Ok, Err, Result, is_ok, ◌==◌}
 use Rattle.wire.specs.Bytes.{Read, ◌then◌, four, four_bytes, placed, placed_at}
 use Rattle.wire.specs.Several.{after, made}
 use Rattle.page.specs.Rows.{client_bytes, client_of, clients_in, occupied, rising_clients, rising_shelves, rows_bytes, rows_of, shelf_bytes, shelf_of, shelves_in, with_client, with_shelf}
+use Rattle.wire.specs.declared.fault.Fault.{Fault}
+use Rattle.wire.specs.declared.fault.Fault.TheVariants.{Malformed, OutOfRange}
 use Rattle.page.specs.declared.judge.Judged.{Judged}
 use Rattle.page.specs.declared.rows.Client.{Client}
 use Rattle.page.specs.declared.rows.Shelf.{Shelf}
@@ -29,6 +31,13 @@ judged_in p = record { before = p.before; sound = rising_shelves 0 p.shelves && 
 abbrev pub page_of : List ℕ → Read Judged
 page_of bs = made judged_in (raw_page_of bs)
 
+-- how many entries stand before the page that some bytes are, or why they are refused: slices that are no store,
+-- no page at the front, or bytes behind it; and then, something out of range
+abbrev pub outcome : Store → Read Judged → Result ℕ Fault
+outcome s None = Err Malformed
+outcome s (Some q) =
+    cond (whole s && length q.1 == 0) (cond q.0.sound (Ok q.0.before) (Err OutOfRange)) (Err Malformed)
+
 -- the rows of a page put into the tables of a store
 abbrev pub with_rows : Store → RawPage → Store
 with_rows s p =
@@ -43,6 +52,10 @@ cleared s = tables (replicate (length s.shelves) 0) (replicate (length s.lasts) 
 abbrev pub held : Store → Read RawPage → Store
 held s None = s
 held s (Some q) = with_rows (cleared s) q.0
+
+-- the store afterwards: as it was, if the bytes are refused
+abbrev pub filled : Store → List ℕ → Store
+filled s bs = cond (is_ok (outcome s (page_of bs))) (held s (raw_page_of bs)) s
 
 -- the store afterwards: as it was, if it is none or there is no page
 abbrev pub loaded : Store → Read RawPage → Store

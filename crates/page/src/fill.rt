@@ -1,13 +1,14 @@
 // A page put into the store in lent memory.
 ghost use Rattle.wire.specs.Several.{after, made, rest_of, seen_rest, several};
-ghost use Rattle.page.specs.Page.{loaded, raw_page_of, with_rows};
+ghost use Rattle.page.specs.Page.{filled, loaded, outcome, page_of, raw_page_of, with_rows};
 ghost use Rattle.page.specs.Rows.{client_of, left_with, shelf_of, with_client, with_shelf};
 ghost use Rattle.store.specs.Store.{lent, whole};
 ghost use Rattle.std.specs.Prelude.{◌≡◌, if◌then◌else◌, None, slice_set};
 
+use crate::judge::judge_page;
 use crate::rows::{read_client, read_count, read_shelf};
 use store::is_whole;
-use wire::{read_slice, read_u32};
+use wire::{Fault, read_slice, read_u32};
 
 // Sets one cell; where there is none, nothing changes.
 fn set_cell(cells: &mut [u32], at: usize, value: u32)
@@ -101,4 +102,36 @@ pub fn load_page<'a>(
     lasts.fill(0);
     words.fill(0);
     fill_tables(bytes, shelves, lasts, words)
+}
+
+// How many entries stand before the page that the bytes are, or why they are refused.
+fn check_page(bytes: &[u8], shelves: &[u32], lasts: &[u32], words: &[u32]) -> Result<u32, Fault>
+    ensures { result ≡ outcome (lent shelves.now lasts.now words.now) (page_of bytes.now) }
+{
+    match judge_page(bytes) {
+        Some((judged, rest)) if is_whole(shelves, lasts, words) && rest.is_empty() => {
+            if judged.sound {
+                Ok(judged.before)
+            } else {
+                Err(Fault::OutOfRange)
+            }
+        }
+        _ => Err(Fault::Malformed),
+    }
+}
+
+// Reads a page into the tables of a store, and says how many entries stand before it.
+// Bytes that are refused change nothing.
+pub fn read_page(
+    bytes: &[u8],
+    shelves: &mut [u32],
+    lasts: &mut [u32],
+    words: &mut [u32],
+) -> Result<u32, Fault>
+    ensures before { result ≡ outcome (lent shelves.old lasts.old words.old) (page_of bytes.now) }
+    ensures store { lent shelves.new lasts.new words.new ≡ filled (lent shelves.old lasts.old words.old) bytes.now }
+{
+    let before = check_page(bytes, shelves, lasts, words)?;
+    load_page(bytes, shelves, lasts, words);
+    Ok(before)
 }

@@ -5,7 +5,7 @@ use Rattle.std.proofs.lemmas.Bool.{and_from, and_left, and_right, cases_Bool, ca
 use Rattle.store.specs.Store.{Store, applied, bare, done, last, outcome, played, word}
 use Rattle.store.specs.declared.request.Request.{Request}
 use Rattle.store_laws.proofs.Steps.{done_is, idle}
-use Rattle.store_laws.specs.Laws.{Got, InTurn, WordGot, NeverFalls, Once, following, numbers}
+use Rattle.store_laws.specs.Laws.{Got, InTurn, KeepsWord, NeverFalls, Once, following, numbers}
 
 pub played_append : (s : Store) (rs qs : List Request) → played s (rs ++ qs) ≡ played (played s rs) qs
 played_append s [] qs = refl
@@ -101,5 +101,5 @@ got s (r ∷ rs) c h =
           (cases_lt (last (applied r s) c) (last (played (applied r s) rs) c))
     ]
 
-pub word_got : WordGot
-word_got s rs c = (got s rs c, same_word s rs c)
+pub keeps_word : KeepsWord
+keeps_word s rs c = (got s rs c, same_word s rs c)

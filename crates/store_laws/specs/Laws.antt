@@ -49,7 +49,7 @@ pub record Got (s : Store) (rs : List Request) (c : ℕ) : Type 0 where
 
 -- The word kept for a client's last request is the one that it got where it was done;
 -- of a client of whom nothing was done the word stays.
-abbrev pub WordGot : Type 0
-WordGot =
+abbrev pub KeepsWord : Type 0
+KeepsWord =
     (s : Store) (rs : List Request) (c : ℕ) → (last s c < last (played s rs) c → Got s rs c) ×
     (last (played s rs) c ≡ last s c → word (played s rs) c ≡ word s c)

@@ -2,7 +2,7 @@
 // the definitions are those that the contracts of `store` equate the code with.
 #![tactic(auto)]
 
-ghost use Rattle.store_laws.specs.Laws.{OnlyNext, Once, NeverFalls, InTurn, WordGot};
+ghost use Rattle.store_laws.specs.Laws.{OnlyNext, Once, NeverFalls, InTurn, KeepsWord};
 ghost use Rattle.store_laws.specs.Reading.{ReadsAs};
 
 pub fn only_the_next_is_done() -> u8
@@ -30,7 +30,7 @@ pub fn done_in_turn() -> u8
 }
 
 pub fn word_kept_is_word_got() -> u8
-    ensures { WordGot }
+    ensures { KeepsWord }
 {
     0
 }
