@@ -6,6 +6,7 @@ use Rattle.wire.specs.Exact.{Bytes}
 use Rattle.wire.specs.Several.{after, joined}
 use Rattle.wire.specs.declared.fault.Fault.{Fault}
 use Rattle.wire.specs.declared.fault.Fault.TheVariants.{Malformed, OutOfRange}
+use Rattle.entries.proofs.Judging.{entries_joined}
 use Rattle.entries.specs.Entries.{sound_too}
 use Rattle.entry.specs.Entry.{found_in, raw_bytes}
 use Rattle.entry.specs.Members.{list_bytes, listed, members_in}
@@ -76,7 +77,7 @@ letter_form (Promises t b from had log) h =
       fits = (h.0, h.1, (omega arith), h.3, (omega arith), f.fits);
       sound = and_from (ltb from 16) (after sound_too true (map found_in f.raws)) (lt-ltb from 16 low) f.sound;
       letter = ap (Promises t b from had) f.entries;
-      bytes = ap (λ (n : ℕ). promise_head t b from had n ++ joined raw_bytes f.raws) long ∙ ap (λ (x : List ℕ). promise_head t b from had (length log) ++ x) f.bytes;
+      bytes = ap (λ (n : ℕ). promise_head t b from had n ++ joined raw_bytes f.raws) long ∙ ap (λ (x : List ℕ). promise_head t b from had (length log) ++ x) (f.bytes ∙ sym (entries_joined log));
     }
 letter_form (Parts t b place es) h =
     let f = entry_forms es h.4 in
@@ -87,7 +88,7 @@ letter_form (Parts t b place es) h =
       fits = (h.0, h.1, (omega arith), f.fits);
       sound = and_from (ltb 0 b) (after sound_too true (map found_in f.raws)) (lt-ltb 0 b h.2) f.sound;
       letter = ap (Parts t b place) f.entries;
-      bytes = ap (λ (n : ℕ). part_head t b place n ++ joined raw_bytes f.raws) long ∙ ap (λ (x : List ℕ). part_head t b place (length es) ++ x) f.bytes;
+      bytes = ap (λ (n : ℕ). part_head t b place n ++ joined raw_bytes f.raws) long ∙ ap (λ (x : List ℕ). part_head t b place (length es) ++ x) (f.bytes ∙ sym (entries_joined es));
     }
 letter_form (Takes t b from c) h =
     let low = h.3 in
@@ -125,7 +126,7 @@ in_form (RawPromises t b from had log) h all e =
     let few = h.4 in
     record {
       fits = (h.0, h.1, ltb-true from 16 p.0, h.3, (omega arith), r.fits);
-      bytes = ap (λ (n : ℕ). promise_head t b from had n ++ joined raw_bytes log) (sym long) ∙ ap (λ (x : List ℕ). promise_head t b from had (length es) ++ x) r.bytes;
+      bytes = ap (λ (n : ℕ). promise_head t b from had n ++ joined raw_bytes log) (sym long) ∙ ap (λ (x : List ℕ). promise_head t b from had (length es) ++ x) (r.bytes ∙ sym (entries_joined es));
     }
 in_form (RawParts t b place ws) h all e =
     let p = and_parts (ltb 0 b) (after sound_too true (map found_in ws)) e in
@@ -135,7 +136,7 @@ in_form (RawParts t b place ws) h all e =
     let few = h.2 in
     record {
       fits = (h.0, h.1, ltb-true 0 b p.0, (omega arith), r.fits);
-      bytes = ap (λ (n : ℕ). part_head t b place n ++ joined raw_bytes ws) (sym long) ∙ ap (λ (x : List ℕ). part_head t b place (length es) ++ x) r.bytes;
+      bytes = ap (λ (n : ℕ). part_head t b place n ++ joined raw_bytes ws) (sym long) ∙ ap (λ (x : List ℕ). part_head t b place (length es) ++ x) (r.bytes ∙ sym (entries_joined es));
     }
 in_form (RawTakes t b from c) h all e =
     let p = and_parts (ltb 0 b) (ltb from 16) (and_parts (ltb 0 b && ltb from 16) true e).0 in

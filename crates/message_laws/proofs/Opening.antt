@@ -6,6 +6,7 @@ use Rattle.wire.specs.Bytes.{Read, ◌then◌, four, one, two}
 use Rattle.wire.specs.Several.{after, front, made, several}
 use Rattle.wire.specs.declared.fault.Fault.{Fault}
 use Rattle.wire.specs.declared.fault.Fault.TheVariants.{Malformed, OutOfRange}
+use Rattle.entries.proofs.Judging.{judged_is}
 use Rattle.entries.specs.Entries.{entries_in, judged_of, sound_too}
 use Rattle.entry.specs.Entry.{Raw, entry_of, found_in, raw_of}
 use Rattle.entry.specs.Members.{list_of, members_in}
@@ -15,6 +16,7 @@ use Rattle.message.specs.Message.{head_of_ask, head_of_begin, ended_to, judged, 
 use Rattle.message.specs.declared.head.Judged.{Judged}
 use Rattle.message.specs.declared.head.Message.{Message}
 use Rattle.message.specs.declared.head.Message.TheVariants.{Ask, Begin, Part, Promise, Took}
+use Rattle.message.proofs.Whole.{before_is}
 use Rattle.message_laws.proofs.Shapes.{raw_ask_of, raw_begin_of, raw_letter_of, raw_part_of, raw_promise_of, raw_took_of}
 use Rattle.message.specs.Letter.{Asks, Begins, Letter, Parts, Promises, Takes, head_of_letter}
 use Rattle.message_laws.specs.Laws.{RawAsks, RawBegins, RawLetter, RawParts, RawPromises, RawTakes, letter_with, store_in}
@@ -115,7 +117,8 @@ module _ (m : Message) (ok : Bool) (count : ℕ) (bs : List ℕ) (make : List Ra
       ap (λ (b : Bool). with_letter (cond (eqb (length p.1) 0) (cond b (Ok (m, bs)) (Err OutOfRange)) (Err Malformed))) (sound p.0) ∙ is_form m bs p.1 (make p.0) (head p.0 long) (letter p.0 all)
 
   entries_opened : with_letter (ended_to (judged m ok) bs (judged_of count bs)) ≡ formed (several raw_of count bs then λ log bs. Some (make log, bs))
-  entries_opened = ap (λ (o : Read (List Found)). with_letter (ended_to (judged m ok) bs (made (after sound_too true) o))) (found_several count bs) ∙ entries_at (several raw_of count bs) refl
+  entries_opened =
+      ap (λ (o : Read Bool). with_letter (ended_to (judged m ok) bs o)) (judged_is count bs) ∙ ap (λ (o : Read (List Found)). with_letter (ended_to (judged m ok) bs (made (after sound_too true) o))) (found_several count bs) ∙ entries_at (several raw_of count bs) refl
 
 long_as : (count : ℕ) (log : List Raw) → length log ≡ count → count ≡ length (entries_in (map found_in log))
 long_as count log e = sym (length-map (map found_in log) (λ f. f.entry) ∙ length-map log found_in ∙ e)
@@ -133,14 +136,6 @@ part_opened bs =
     either (ltb 4096 (place + count)) _ _ _ _ refl
     (entries_opened (Part term ballot place count) (ltb 0 ballot) count bs (RawParts term ballot place) (λ log e. ap (Part term ballot place) (long_as count log e))
     (λ log e. ap (λ (fs : List Found). Parts term ballot place (entries_in fs)) e) (λ log. refl))))))
-
--- a page's first number is how many entries stand before it
-before_is : (bs : List ℕ) (p : RawPage × List ℕ) (q : ℕ × List ℕ) → raw_page_of bs ≡ Some p → four bs ≡ Some q → q.0 ≡ p.0.before
-before_is bs p q e f =
-    let s = split (four bs) _ p e in
-    let t = split (rows_of shelf_of 1024 s.rest) _ p s.second in
-    let u = split (rows_of client_of 256 t.rest) _ p t.second in
-    same_value (sym f ∙ s.first) ∙ ap (λ (page : RawPage). page.before) (same_value u.second)
 
 -- the store that a page holds
 pub store_is : (bs : List ℕ) (p : RawPage) (rest : List ℕ) → raw_page_of bs ≡ Some (p, rest) → store_in bs ≡ with_rows bare p

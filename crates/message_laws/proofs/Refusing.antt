@@ -3,6 +3,7 @@ use Rattle.std.proofs.Common.{◌≡◌, ℕ, Bool, true, false, List, Ok, Err, 
 use Rattle.wire.specs.Exact.{Bytes}
 use Rattle.wire.specs.declared.fault.Fault.{Fault}
 use Rattle.wire.specs.declared.fault.Fault.TheVariants.{Malformed, OutOfRange}
+use Rattle.message.proofs.Whole.{whole_is}
 use Rattle.message.specs.Message.{head_in, judged_in, opened_in}
 use Rattle.message.specs.declared.head.Message.{Message}
 use Rattle.message_laws.proofs.Letters.{Formed, Formless, Forms, err_ok, form_read, formed_or_not, in_form, letter_form, letter_read}
@@ -33,7 +34,7 @@ ranged_formed false l e = apart (sym e)
 
 module _ (bs : List ℕ) (h : Bytes bs) where
   judged : judged_in bs ≡ head_only (with_letter (opened_in bs))
-  judged = head_only_lem (opened_in bs)
+  judged = sym (whole_is bs) ∙ head_only_lem (opened_in bs)
 
   malformed : judged_in bs ≡ Err Malformed → HasForm bs → ⊥
   malformed e form = ranged_formed (in_range form.0) (letter_from form.0) (sym (ap head_only (form_read bs form.0 form.1 form.2)) ∙ sym judged ∙ e)
