@@ -4,7 +4,7 @@ use Rattle.wire.specs.declared.fault.Fault.{Fault}
 use Rattle.command.specs.declared.parse.Command.{Command}
 use Rattle.command.specs.declared.parse.Command.TheVariants.{Do, Show}
 use Rattle.script.specs.Laws.{OnlyRequests, asked, requests}
-use Rattle.script.specs.Rehearsal.{after, is_idle, turned}
+use Rattle.script.specs.Rehearsal.{after, is_passed, turned}
 use Rattle.std.proofs.Common.{◌≡◌, Bool, true, false, cond, List, [], ◌∷◌, ◌++◌, Ok, Err, Result, refl, ◌∙◌}
 use Rattle.store.specs.Store.{Store, played}
 use Rattle.store.specs.declared.request.Request.{Request}
@@ -17,4 +17,4 @@ turn_plays false (Err f) s more = refl
 
 pub only_requests : OnlyRequests
 only_requests s [] = refl
-only_requests s (line ∷ more) = only_requests (after line s) more ∙ turn_plays (is_idle line) (command_of line) s (requests more)
+only_requests s (line ∷ more) = only_requests (after line s) more ∙ turn_plays (is_passed line) (command_of line) s (requests more)

@@ -4,7 +4,7 @@ use Rattle.command.specs.Command.{command_of}
 use Rattle.wire.specs.declared.fault.Fault.{Fault}
 use Rattle.command.specs.declared.parse.Command.{Command}
 use Rattle.command.specs.declared.parse.Command.TheVariants.{Do, Show}
-use Rattle.script.specs.Rehearsal.{after, is_idle}
+use Rattle.script.specs.Rehearsal.{after, is_passed}
 use Rattle.store.specs.Store.{Store, played}
 use Rattle.store.specs.declared.request.Request.{Request}
 
@@ -17,7 +17,7 @@ asked (Err f) = []
 -- the requests of some lines, in order
 abbrev pub requests : List (List ℕ) → List Request
 requests [] = []
-requests (line ∷ more) = cond (is_idle line) [] (asked (command_of line)) ++ requests more
+requests (line ∷ more) = cond (is_passed line) [] (asked (command_of line)) ++ requests more
 
 -- the store behind some lines
 abbrev pub left : Store → List (List ℕ) → Store

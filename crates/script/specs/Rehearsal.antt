@@ -2,7 +2,6 @@
 use Rattle.std.specs.Prelude.{ℕ, ◌+◌, Bool, cond, ◌||◌, List, [], ◌∷◌, ◌++◌, Ok, Err, Result, ◌==◌, slice_index}
 use Rattle.print.specs.Answer.{line_text}
 use Rattle.print.specs.Rows.{store_text}
-use Rattle.script.specs.Reading.{is_read, read_line}
 use Rattle.command.specs.Command.{command_of, ended}
 use Rattle.wire.specs.Fault as faults
 use Rattle.print.specs.declared.answer.Answer.{Answer}
@@ -14,7 +13,6 @@ use Rattle.store.specs.Refusal as refusals
 use Rattle.store.specs.Store.{Store, bare, outcome, applied}
 use Rattle.store.specs.declared.refusal.Refusal.{Refusal}
 use Rattle.text.specs.Lines.{lines}
-use Rattle.text.specs.Text.{after_word}
 
 -- its first byte is 35, a `#`
 abbrev pub is_comment : List ℕ → Bool
@@ -48,15 +46,10 @@ reply_text n answers.Show s = line_text n answers.Show ++ store_text s
 
 -- what the n-th line prints, and the store behind it
 abbrev pub printed : ℕ → List ℕ → Store → List ℕ
-printed n line s =
-    cond (is_passed line) [] (cond (is_read line) (read_line n (after_word line)) (reply_text n (answered (command_of line) s) (turned (command_of line) s)))
-
--- lines that are passed over, and those that read a message, leave it
-abbrev pub is_idle : List ℕ → Bool
-is_idle line = is_passed line || is_read line
+printed n line s = cond (is_passed line) [] (reply_text n (answered (command_of line) s) (turned (command_of line) s))
 
 abbrev pub after : List ℕ → Store → Store
-after line s = cond (is_idle line) s (turned (command_of line) s)
+after line s = cond (is_passed line) s (turned (command_of line) s)
 
 -- the lines of a script, the first of which is the n-th
 abbrev pub transcript : ℕ → Store → List (List ℕ) → List ℕ

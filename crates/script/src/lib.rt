@@ -4,4 +4,5 @@
 mod reading;
 mod rehearsal;
 
+pub use reading::play_read;
 pub use rehearsal::{only_requests_count, rehearse};

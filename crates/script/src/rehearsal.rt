@@ -5,12 +5,11 @@ ghost use Rattle.std.specs.Prelude.{◌≡◌, ◌++◌, IfOk, string_bytes, OnO
 ghost use Rattle.store.specs.Store.{lent};
 ghost use Rattle.text.specs.Lines.{lines};
 
-use crate::reading::play_read;
 use command::{Command, is_blank};
 use print::{Answer, push_answer, push_store};
 use std::alloc::{AllocError, Global};
 use store::{CLIENTS, SHELVES};
-use text::{is_text, split_once, split_word};
+use text::split_once;
 use wire::Fault;
 
 // Whether a line is a comment.
@@ -81,10 +80,6 @@ fn play(
 {
     if is_passed_over(line) {
         return Ok(());
-    }
-    let (name, text) = split_word(line);
-    if is_text(name, b"read") {
-        return play_read(heap, out, number, text);
     }
     let answer = carry_out(Command::parse(line), shelves, lasts, words);
     push_reply(heap, out, number, answer, shelves, lasts, words)
