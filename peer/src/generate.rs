@@ -95,9 +95,12 @@ fn written(random: &mut Random, hostile: usize) -> Vec<u8> {
     script
 }
 
+/// Whether scripts have lines that read a message: not before the proved program reads them.
+const MESSAGES: bool = false;
+
 /// How many lines in a hundred read a message; in most scripts there are none.
 fn reads(random: &mut Random, long: bool) -> usize {
-    match random.chance(35) {
+    match MESSAGES && random.chance(35) {
         false => 0,
         true if long => 3,
         true => 10 + random.below(80),
@@ -391,7 +394,7 @@ fn spaced(random: &mut Random, words: &[Word], runs: usize) -> Vec<u8> {
 #[cfg(test)]
 mod tests {
     use super::*;
-    use crate::script::rehearse;
+    use crate::script::{rehearse, rehearse_with_messages};
 
     #[test]
     fn scripts_follow_from_seed_and_index() {
@@ -415,12 +418,28 @@ mod tests {
             let count = answers.lines().filter(|line| line.ends_with(part)).count();
             assert!(count > 100, "{part}: {count}");
         }
-        for part in [" ask ", " promise ", " part ", " took ", " begin "] {
-            let count = answers.lines().filter(|line| line.contains(part)).count();
-            assert!(count > 100, "{part}: {count}");
-        }
         for part in ["shelf 0 ", "shelf 1023 ", "client 0 ", "client 255 "] {
             assert!(answers.lines().any(|line| line.starts_with(part)), "{part}");
+        }
+    }
+
+    #[test]
+    fn all_messages_occur() {
+        let mut random = Random::new(1, 0);
+        let lines: Vec<_> = (0..3000).map(|_| messages::line(&mut random)).collect();
+        let answers = rehearse_with_messages(&lines.join(&b'\n'));
+        let answers = String::from_utf8(answers).expect("answers are ASCII");
+        for part in [
+            " ask ",
+            " promise ",
+            " part ",
+            " took ",
+            " begin ",
+            "refused 1",
+            "refused 2",
+        ] {
+            let count = answers.lines().filter(|line| line.contains(part)).count();
+            assert!(count > 100, "{part}: {count}");
         }
     }
 }

@@ -1,5 +1,5 @@
 -- What clients see of the one line: their requests done in turn and once, and the words that they got.
-use Rattle.std.proofs.Common.{◌≡◌, ℕ, zero, suc, ◌+◌, ◌<◌, ◌≤◌, ◌⊎◌, List, [], ◌∷◌, ◌++◌, sym, refl, ap, ◌∙◌, inl, inr, arith}
+use Rattle.std.proofs.Common.{◌≡◌, ℕ, zero, suc, ◌<◌, ◌≤◌, ◌⊎◌, List, [], ◌∷◌, ◌++◌, sym, refl, ap, ◌∙◌, inl, inr, arith}
 use Rattle.council.proofs.Prefixes.{pre_of, pre_trans}
 use Rattle.council.proofs.Safe.{run_on}
 use Rattle.council.specs.Log.{Line, Prefix, made, requests_in}

@@ -1,7 +1,6 @@
 -- Entries judged, and entries written, as anything is that stands one behind the other.
 use Rattle.std.proofs.Common.{◌≡◌, ℕ, true, List, [], ◌∷◌, ◌++◌, refl, ap}
 use Rattle.wire.proofs.Repeats.{times_is}
-use Rattle.wire.specs.Bytes.{Read}
 use Rattle.wire.specs.Several.{after, joined, made}
 use Rattle.entries.specs.Entries.{entries_bytes, found_of, judged_next, judged_of, sound_too}
 use Rattle.entry.specs.Entry.{entry_bytes, entry_of}

@@ -12,7 +12,7 @@ use Rattle.message.specs.Message.{ask_of, begin_of, ended_to, head_in, head_of_a
 use Rattle.message.specs.declared.head.Judged.{Judged}
 use Rattle.message.specs.declared.head.Message.{Message}
 use Rattle.message.specs.declared.head.Message.TheVariants.{Ask, Begin, Part, Promise, Took}
-use Rattle.page.specs.Page.{RawPage, page_of, raw_page_of}
+use Rattle.page.specs.Page.{RawPage, raw_page_of}
 use Rattle.page.specs.Page.{judged_in as judged_page}
 use Rattle.page.specs.Rows.{client_of, rows_of, shelf_of}
 

@@ -1,6 +1,6 @@
 -- What is read of bytes is what the form that they have makes of them.
 use Rattle.std.proofs.Common.{◌≡◌, ℕ, zero, suc, ◌+◌, Bool, true, false, cond, ◌&&◌, eqb, ltb, List, ◌∷◌, map, length, Some, None, Ok, Err, Result, sym, refl, ap, ◌∙◌}
-use Rattle.wire.proofs.Exacts.{none_some, same_value, split}
+use Rattle.wire.proofs.Exacts.{none_some, split}
 use Rattle.wire.proofs.Turns.{front_all, several_length}
 use Rattle.wire.specs.Bytes.{Read, ◌then◌, four, one, two}
 use Rattle.wire.specs.Several.{after, front, made, several}
@@ -22,7 +22,6 @@ use Rattle.message.specs.Letter.{Asks, Begins, Letter, Parts, Promises, Takes, h
 use Rattle.message_laws.specs.Laws.{RawAsks, RawBegins, RawLetter, RawParts, RawPromises, RawTakes, letter_with, store_in}
 use Rattle.page.specs.Page.{RawPage, loaded, raw_page_of, with_rows}
 use Rattle.page.specs.Page.{judged_in as judgedPage}
-use Rattle.page.specs.Rows.{client_of, rows_of, shelf_of}
 use Rattle.page_laws.proofs.Loading.{loads}
 use Rattle.store.specs.Store.{bare}
 use lib.ListN.{length-map}
