@@ -11,7 +11,7 @@ use Rattle.council.specs.Rules.{Begin, Local, Log, Msg, Promise, Station, Upto, 
 use Rattle.entry.specs.declared.entry.Entry.{Entry}
 use Rattle.std.proofs.lemmas.List.{length_push}
 use Rattle.std.proofs.lemmas.Bool.{eqb-true}
-use Rattle.std.specs.List.{AllByRecursion as All}
+use Rattle.std.specs.List.{AllByRecursion}
 use mathlib.Core.List.Memᴰ
 
 -- a ballot that is kept only if it is b
@@ -237,7 +237,7 @@ past_begin (Past.after m) g = m
 
 -- what is new about what it sends
 pub fresh : {ms : Members} {may : Entry → Type 0} {i : ℕ} {air : List Msg} {s u : Station} {new : List Msg} →
-    Own ms i air s → Seen i air s → Known ms air → Told air → Local may i air s u new → All (Fresh ms i air new s u) new
+    Own ms i air s → Seen i air s → Known ms air → Told air → Local may i air s u new → AllByRecursion (Fresh ms i air new s u) new
 fresh w seen known told (Local.ask b m o p z) = (tt, tt)
 fresh w seen known told (Local.promise b m a p l) =
     (record { from = refl; term = refl; stay = refl; had = refl; log = refl; below = l; now = refl; held = held_more (_ ∷ []) w.holds }, tt)

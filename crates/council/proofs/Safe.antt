@@ -11,7 +11,7 @@ use Rattle.council.specs.Quorum.{Members}
 use Rattle.council.specs.Rules.{Ask, Begin, Local, Log, Msg, Net, Promise, Reach, Run, Station, Step, Took, Upto, ◌∈◌, entered, put}
 use Rattle.entry.specs.declared.entry.Entry.{Entry}
 use Rattle.std.proofs.lemmas.Bool.{eq-eqb, eqb-true}
-use Rattle.std.specs.List.{AllByRecursion as All}
+use Rattle.std.specs.List.{AllByRecursion}
 use mathlib.Core.List.Memᴰ
 
 -- what holds of the station that took a step, and of the others as they were, holds of all after it
@@ -25,7 +25,7 @@ put_all P {i} {u} {f} here there j = go (eqb j i) refl
 pub put_at : (i : ℕ) (u : Station) (f : ℕ → Station) (j : ℕ) → j ≡ i → put i u f j ≡ u
 put_at i u f j e = rw (eq-eqb j i e)
 
-pub all_at : (P : Msg → Type 0) (l : List Msg) → All P l → (x : Msg) → x ∈ l → P x
+pub all_at : (P : Msg → Type 0) (l : List Msg) → AllByRecursion P l → (x : Msg) → x ∈ l → P x
 all_at P [] a x m = elim m [ ]
 all_at P (y ∷ l) a x m = go (Memᴰ.cases_cons m) (all_at P l a.1 x)
   where

@@ -18,7 +18,7 @@ use Rattle.message_laws.proofs.Shapes.{raw_exact, raw_letter_of}
 use Rattle.message.specs.Letter.{Asks, Begins, Letter, Parts, Promises, Takes, head_of_letter, letter_bytes}
 use Rattle.message_laws.specs.Laws.{HasForm, LetterFits, Letters, RawAsks, RawBegins, RawLetter, RawLetterFits, RawParts, RawPromises, RawTakes, letter_to, raw_letter_bytes}
 use Rattle.page.specs.Page.{RawPage, page_bytes, page_in, raw_page_bytes, with_rows}
-use Rattle.page.specs.Page.{judged_in as judgedPage}
+use Rattle.page.specs.Page.{judged_in as judged_page}
 use Rattle.page_laws.proofs.Forms.{page_forms}
 use Rattle.page_laws.proofs.Pages.{page_fits, pages}
 use Rattle.page_laws.specs.Laws.{Paged, PagedFits, RawPageFits}
@@ -30,22 +30,22 @@ abbrev paged : ℕ → Store → Paged
 paged before s = record { before = before; store = s }
 
 abbrev page_to : RawPage → List ℕ → Read Paged
-page_to p bs = cond (judgedPage p).sound (Some (paged p.before (with_rows bare p), bs)) None
+page_to p bs = cond (judged_page p).sound (Some (paged p.before (with_rows bare p), bs)) None
 
 -- the page of a store that fits is in range, and makes that store
-page_in_lem : (before : ℕ) (s : Store) → PagedFits (paged before s) → ((judgedPage (page_in before s)).sound ≡ true) × (with_rows bare (page_in before s) ≡ s)
+page_in_lem : (before : ℕ) (s : Store) → PagedFits (paged before s) → ((judged_page (page_in before s)).sound ≡ true) × (with_rows bare (page_in before s) ≡ s)
 unfolding page_bytes
 page_in_lem before s h =
     let p = page_in before s in
     let e = sym (ap (λ (o : Read RawPage). o then page_to) (page_forms.back p [] (page_fits (paged before s) h))) ∙ pages.back (paged before s) [] h in
-    let d = if_so (judgedPage p).sound (paged before (with_rows bare p), []) (paged before s, []) e in
+    let d = if_so (judged_page p).sound (paged before (with_rows bare p), []) (paged before s, []) e in
     (d.0, ap (λ (q : Paged × List ℕ). q.0.store) d.1)
 
 -- a page that is in range is that of a store that fits
-page_only : (p : RawPage) → RawPageFits p → Bytes (raw_page_bytes p) → (judgedPage p).sound ≡ true → PagedFits (paged p.before (with_rows bare p)) × (raw_page_bytes p ≡ page_bytes p.before (with_rows bare p))
+page_only : (p : RawPage) → RawPageFits p → Bytes (raw_page_bytes p) → (judged_page p).sound ≡ true → PagedFits (paged p.before (with_rows bare p)) × (raw_page_bytes p ≡ page_bytes p.before (with_rows bare p))
 page_only p fits bytes sound =
     let v = paged p.before (with_rows bare p) in
-    let is = ap (λ (o : Read RawPage). o then page_to) (page_forms.back p [] fits) ∙ cond-true (judgedPage p).sound (Some (v, [])) None sound in
+    let is = ap (λ (o : Read RawPage). o then page_to) (page_forms.back p [] fits) ∙ cond-true (judged_page p).sound (Some (v, [])) None sound in
     let o = pages.only (raw_page_bytes p ++ []) v [] (subst Bytes (sym (append-nil (raw_page_bytes p))) bytes) is in
     (o.0, sym (append-nil (raw_page_bytes p)) ∙ o.1 ∙ append-nil (page_bytes p.before (with_rows bare p)))
 
@@ -106,7 +106,7 @@ letter_form (Begins t ms before s) h =
     record {
       raw = RawBegins t (listed ms) (page_in before s);
       fits = (h.0, c.few, c.bytes, page_fits (paged before s) h.3);
-      sound = and_from (members_in (listed ms)).sound (judgedPage (page_in before s)).sound c.sound p.0;
+      sound = and_from (members_in (listed ms)).sound (judged_page (page_in before s)).sound c.sound p.0;
       letter = ap (λ (m : ℕ). Begins t m before (with_rows bare (page_in before s))) c.set ∙ ap (Begins t ms before) p.1;
       bytes = refl;
     }
@@ -142,7 +142,7 @@ in_form (RawTakes t b from c) h all e =
     let p = and_parts (ltb 0 b) (ltb from 16) (and_parts (ltb 0 b && ltb from 16) true e).0 in
     record { fits = (h.0, h.1, ltb-true 0 b p.0, ltb-true from 16 p.1, h.3); bytes = refl }
 in_form (RawBegins t ms p) h all e =
-    let d = and_parts (members_in ms).sound (judgedPage p).sound e in
+    let d = and_parts (members_in ms).sound (judged_page p).sound e in
     let c = council_only ms h.1 h.2 d.0 in
     let o = page_only p h.3 (bytes_behind (7 ∷ (two_bytes t ++ list_bytes ms)) (raw_page_bytes p) all) d.1 in
     record {

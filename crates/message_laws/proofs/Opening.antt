@@ -21,7 +21,7 @@ use Rattle.message_laws.proofs.Shapes.{raw_ask_of, raw_begin_of, raw_letter_of, 
 use Rattle.message.specs.Letter.{Asks, Begins, Letter, Parts, Promises, Takes, head_of_letter}
 use Rattle.message_laws.specs.Laws.{RawAsks, RawBegins, RawLetter, RawParts, RawPromises, RawTakes, letter_with, store_in}
 use Rattle.page.specs.Page.{RawPage, loaded, raw_page_of, with_rows}
-use Rattle.page.specs.Page.{judged_in as judgedPage}
+use Rattle.page.specs.Page.{judged_in as judged_page}
 use Rattle.page_laws.proofs.Loading.{loads}
 use Rattle.store.specs.Store.{bare}
 use lib.ListN.{length-map}
@@ -32,7 +32,7 @@ in_range (RawAsks t b) = ltb 0 b && true
 in_range (RawPromises t b from had log) = ltb from 16 && after sound_too true (map found_in log)
 in_range (RawParts t b place es) = ltb 0 b && after sound_too true (map found_in es)
 in_range (RawTakes t b from c) = (ltb 0 b && ltb from 16) && true
-in_range (RawBegins t ms p) = (members_in ms).sound && (judgedPage p).sound
+in_range (RawBegins t ms p) = (members_in ms).sound && (judged_page p).sound
 
 abbrev pub letter_from : RawLetter → Letter
 letter_from (RawAsks t b) = Asks t b
@@ -145,10 +145,10 @@ page_opened : (term : ℕ) (ms : List ℕ) (bs : List ℕ) (f : Read ℕ) (o : R
     opened (f then λ before _. Some (judged (Begin term (members_in ms).set before) (members_in ms).sound, bs)) ≡ formed (o then λ page bs. Some (RawBegins term ms page, bs))
 page_opened term ms bs None None e i = refl
 page_opened term ms bs None (Some p) e i = let s = split (four bs) _ p i in absurd (none_some (sym e ∙ s.first))
-page_opened term ms bs (Some q) None e i = ap (λ (o : Read RawPage). with_letter (ended_to (judged (Begin term (members_in ms).set q.0) (members_in ms).sound) bs (made (λ page. page.sound) (made judgedPage o)))) i
+page_opened term ms bs (Some q) None e i = ap (λ (o : Read RawPage). with_letter (ended_to (judged (Begin term (members_in ms).set q.0) (members_in ms).sound) bs (made (λ page. page.sound) (made judged_page o)))) i
 page_opened term ms bs (Some q) (Some p) e i =
     let before = before_is bs p q i e in
-    ap (λ (o : Read RawPage). with_letter (ended_to (judged (Begin term (members_in ms).set q.0) (members_in ms).sound) bs (made (λ page. page.sound) (made judgedPage o)))) i ∙
+    ap (λ (o : Read RawPage). with_letter (ended_to (judged (Begin term (members_in ms).set q.0) (members_in ms).sound) bs (made (λ page. page.sound) (made judged_page o)))) i ∙
     is_form (Begin term (members_in ms).set q.0) bs p.1 (RawBegins term ms p.0) (ap (Begin term (members_in ms).set) before)
     (ap (λ (n : ℕ). Begins term (members_in ms).set n (store_in bs)) before ∙ ap (Begins term (members_in ms).set p.0.before) (store_is bs p.0 p.1 i))
 

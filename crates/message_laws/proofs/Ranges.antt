@@ -16,7 +16,7 @@ use Rattle.entry_laws.specs.Laws.{EntryFits, RawFits, accepted, rising}
 use Rattle.message_laws.proofs.Shapes.{within}
 use Rattle.std.proofs.lemmas.List.{append-nil}
 use Rattle.std.proofs.lemmas.Bool.{and_parts, cond-false, cond-true, le-ltb, lt-ltb, ltb-true}
-use Rattle.std.specs.List.{AllByRecursion as All}
+use Rattle.std.specs.List.{AllByRecursion}
 use Rattle.store.specs.Ask.{key_of}
 
 -- something that is there only if a test holds
@@ -83,13 +83,13 @@ entry_form (Close s) h = let c = council s h.0 h.1 in record { raw = Names (list
 
 pub record EntryForms (es : List Entry) : Type 0 where
   pub raws : List Raw
-  pub fits : All RawFits raws
+  pub fits : AllByRecursion RawFits raws
   pub long : length raws ≡ length es
   pub sound : after sound_too true (map found_in raws) ≡ true
   pub entries : entries_in (map found_in raws) ≡ es
   pub bytes : joined raw_bytes raws ≡ joined entry_bytes es
 
-pub entry_forms : (es : List Entry) → All EntryFits es → EntryForms es
+pub entry_forms : (es : List Entry) → AllByRecursion EntryFits es → EntryForms es
 unfolding after joined
 entry_forms [] h = record { raws = []; fits = tt; long = refl; sound = refl; entries = refl; bytes = refl }
 entry_forms (e ∷ es) h =
@@ -112,10 +112,10 @@ raw_entry (Names ms) h b = let m = council_only ms h.0 h.1 b in (m.0, ap (λ (l 
 
 pub record RawEntries (ws : List Raw) (ok : Bool) : Type 0 where
   pub before : ok ≡ true
-  pub fits : All EntryFits (entries_in (map found_in ws))
+  pub fits : AllByRecursion EntryFits (entries_in (map found_in ws))
   pub bytes : joined raw_bytes ws ≡ joined entry_bytes (entries_in (map found_in ws))
 
-pub raw_entries : (ws : List Raw) (ok : Bool) → All RawFits ws → after sound_too ok (map found_in ws) ≡ true → RawEntries ws ok
+pub raw_entries : (ws : List Raw) (ok : Bool) → AllByRecursion RawFits ws → after sound_too ok (map found_in ws) ≡ true → RawEntries ws ok
 unfolding after joined
 raw_entries [] ok h e = record { before = e; fits = tt; bytes = refl }
 raw_entries (w ∷ ws) ok h e =

@@ -18,15 +18,15 @@ use Rattle.message.specs.declared.head.Message.TheVariants.{Ask, Begin, Part, Pr
 use Rattle.message.specs.declared.loading.Unread.{Unread}
 use Rattle.page.specs.Page.{RawPage, loaded, raw_page_bytes, raw_page_of}
 use Rattle.page_laws.specs.Laws.{PagedFits, RawPageFits}
-use Rattle.std.specs.List.{AllByRecursion as All}
+use Rattle.std.specs.List.{AllByRecursion}
 use Rattle.store.specs.Store.{Store, bare}
 
 -- Numbers that fit their fields and are in range: a ballot above 0, but in a promise any; a sender that is a station;
 -- entries that fit, none of them behind the 4,096 places of a log; a council of one member at least; a store that a page can hold.
 abbrev pub LetterFits : Letter → Type 0
 LetterFits (Asks term ballot) = (term < 65536) × (ballot < 2 ^ 32) × (0 < ballot)
-LetterFits (Promises term ballot from had log) = (term < 65536) × (ballot < 2 ^ 32) × (from < 16) × (had < 2 ^ 32) × (length log ≤ 4096) × All EntryFits log
-LetterFits (Parts term ballot place es) = (term < 65536) × (ballot < 2 ^ 32) × (0 < ballot) × (place + length es ≤ 4096) × All EntryFits es
+LetterFits (Promises term ballot from had log) = (term < 65536) × (ballot < 2 ^ 32) × (from < 16) × (had < 2 ^ 32) × (length log ≤ 4096) × AllByRecursion EntryFits log
+LetterFits (Parts term ballot place es) = (term < 65536) × (ballot < 2 ^ 32) × (0 < ballot) × (place + length es ≤ 4096) × AllByRecursion EntryFits es
 LetterFits (Takes term ballot from count) = (term < 65536) × (ballot < 2 ^ 32) × (0 < ballot) × (from < 16) × (count ≤ 4096)
 LetterFits (Begins term members before s) = (term < 65536) × (0 < members) × (members < 65536) × PagedFits (record { before = before; store = s })
 
@@ -98,8 +98,8 @@ raw_letter_bytes (RawBegins term members page) = (7 ∷ (two_bytes term ++ list_
 -- numbers that fit their fields, and counts up to their limits
 abbrev pub RawLetterFits : RawLetter → Type 0
 RawLetterFits (RawAsks term ballot) = (term < 65536) × (ballot < 2 ^ 32)
-RawLetterFits (RawPromises term ballot from had log) = (term < 65536) × (ballot < 2 ^ 32) × (from < 256) × (had < 2 ^ 32) × (length log ≤ 4096) × All RawFits log
-RawLetterFits (RawParts term ballot place es) = (term < 65536) × (ballot < 2 ^ 32) × (place + length es ≤ 4096) × All RawFits es
+RawLetterFits (RawPromises term ballot from had log) = (term < 65536) × (ballot < 2 ^ 32) × (from < 256) × (had < 2 ^ 32) × (length log ≤ 4096) × AllByRecursion RawFits log
+RawLetterFits (RawParts term ballot place es) = (term < 65536) × (ballot < 2 ^ 32) × (place + length es ≤ 4096) × AllByRecursion RawFits es
 RawLetterFits (RawTakes term ballot from count) = (term < 65536) × (ballot < 2 ^ 32) × (from < 256) × (count ≤ 4096)
 RawLetterFits (RawBegins term members page) = (term < 65536) × (length members ≤ 16) × Bytes members × RawPageFits page
 

@@ -10,7 +10,7 @@ use Rattle.page.specs.Rows.{client_bytes, client_of, rows_bytes, rows_of, shelf_
 use Rattle.page.specs.declared.rows.Client.{Client}
 use Rattle.page.specs.declared.rows.Shelf.{Shelf}
 use Rattle.page_laws.specs.Laws.{ClientFits, PageForms, RawPageFits, ShelfFits}
-use Rattle.std.specs.List.{AllByRecursion as All}
+use Rattle.std.specs.List.{AllByRecursion}
 
 -- readers that read the same
 same_exact : {A : Type 0} {r s : List ℕ → Read A} {w : A → List ℕ} {F : A → Type 0} → ((bs : List ℕ) → s bs ≡ r bs) → Exact r w F → Exact s w F
@@ -61,7 +61,7 @@ cond_then : {A B : Type 0} (b : Bool) (o : Read A) (k : A → List ℕ → Read 
 cond_then true o k = refl
 cond_then false o k = refl
 
-rows_exact : {A : Type 0} {reads : List ℕ → Read A} {bytes : A → List ℕ} {Fits : A → Type 0} (limit : ℕ) → limit < 65536 → Exact reads bytes Fits → Exact (rows_of reads limit) (rows_bytes bytes) (λ rows. (length rows ≤ limit) × All Fits rows)
+rows_exact : {A : Type 0} {reads : List ℕ → Read A} {bytes : A → List ℕ} {Fits : A → Type 0} (limit : ℕ) → limit < 65536 → Exact reads bytes Fits → Exact (rows_of reads limit) (rows_bytes bytes) (λ rows. (length rows ≤ limit) × AllByRecursion Fits rows)
 rows_exact {reads = reads} limit low x =
     same_exact (λ bs. sym (then_then (two bs) (λ n bs. cond (ltb limit n) None (Some (n, bs))) (several reads)) ∙ then_same (two bs) _ _ (λ n bs. sym (cond_then (ltb limit n) (Some (n, bs)) (several reads)))) (counted_exact x limit low)
 

@@ -15,7 +15,7 @@ use Rattle.page_laws.specs.Laws.{ClientFits, Paged, PagedFits, Pages, RawPageFit
 use Rattle.std.proofs.ByRecursion.{All-weaker}
 use Rattle.std.proofs.lemmas.List.{length-replicate, length-set}
 use Rattle.std.proofs.lemmas.Bool.{and_from, and_parts, cases_Bool, cond-false, cond-true}
-use Rattle.std.specs.List.{AllByRecursion as All}
+use Rattle.std.specs.List.{AllByRecursion}
 use Rattle.store.specs.Store.{Store, bare, tables}
 
 abbrev paged : ℕ → Store → Paged
@@ -47,7 +47,7 @@ row_of c l w = record { client = c; last = l; word = w }
 abbrev raw_of : ℕ → List Shelf → List Client → RawPage
 raw_of before shelves clients = record { before = before; shelves = shelves; clients = clients }
 
-all_of : {A : Type 0} (P : A → Type 0) → ((a : A) → P a) → (xs : List A) → All P xs
+all_of : {A : Type 0} (P : A → Type 0) → ((a : A) → P a) → (xs : List A) → AllByRecursion P xs
 all_of P h [] = tt
 all_of P h (x ∷ xs) = (h x, all_of P h xs)
 

@@ -5,7 +5,7 @@ use Rattle.page_laws.specs.Laws.{AskFits, Reached, RequestFits, StoreFits}
 use Rattle.std.proofs.ByRecursion.{All-set}
 use Rattle.std.proofs.lemmas.List.{length-set}
 use Rattle.std.proofs.lemmas.Bool.{and_parts, cond_both, eqb-true, false≢true}
-use Rattle.std.specs.List.{AllByRecursion as All}
+use Rattle.std.specs.List.{AllByRecursion}
 use Rattle.store.specs.Ask.{key_of, leaves, says}
 use Rattle.store.specs.Store.{Store, applied, bare, done, is_next, last, played, shelf, tables, whole}
 use Rattle.store.specs.declared.ask.Ask.{Ask}
@@ -56,7 +56,7 @@ applied_fits r s f h =
     })
     (λ d. h)
 
-played_fits : (s : Store) (rs : List Request) → StoreFits s → All RequestFits rs → StoreFits (played s rs)
+played_fits : (s : Store) (rs : List Request) → StoreFits s → AllByRecursion RequestFits rs → StoreFits (played s rs)
 played_fits s [] h f = h
 played_fits s (r ∷ rs) h f = played_fits (applied r s) rs (applied_fits r s f.0 h) f.1
 

@@ -5,7 +5,7 @@ use Rattle.page_laws.specs.Laws.{StoreFits}
 use Rattle.std.proofs.ByRecursion.{All-get_or}
 use Rattle.std.proofs.lemmas.List.{get_or_past, get_or-replicate, get_or-set_other, get_or-set_same, length-replicate, set_past}
 use Rattle.std.proofs.lemmas.Bool.{and_from, and_parts, cases_eq, cases_lt, eq-eqb, eqb-true}
-use Rattle.std.specs.List.{AllByRecursion as All}
+use Rattle.std.specs.List.{AllByRecursion}
 use Rattle.store.specs.Store.{Store, bare, tables, whole}
 
 -- how long the tables are
@@ -40,11 +40,11 @@ cleared_bare s h = let l = lengths s h in same_zeros (length s.shelves) (length 
 abbrev pub Small : ℕ → Type 0
 Small n = n < 2 ^ 32
 
-pub all_zero : (n : ℕ) → All Small (replicate n 0)
+pub all_zero : (n : ℕ) → AllByRecursion Small (replicate n 0)
 all_zero zero = tt
 all_zero (suc n) = (omega arith, all_zero n)
 
-pub small_at : (xs : List ℕ) (i : ℕ) → All Small xs → Small (get_or xs i 0)
+pub small_at : (xs : List ℕ) (i : ℕ) → AllByRecursion Small xs → Small (get_or xs i 0)
 small_at xs i h =
     ⊎_elim
     (λ (k : i < length xs). All-get_or Small xs i 0 k h)

@@ -5,7 +5,7 @@ use Rattle.page.specs.Rows.{listed, rising}
 use Rattle.std.proofs.ByRecursion.{All-set}
 use Rattle.std.proofs.lemmas.List.{append_assoc, drop_all, drop_more, get_or-set_other, get_or-set_same, length_push, length-set, set_at}
 use Rattle.std.proofs.lemmas.Bool.{and_from, and_parts, cases_eq, cases_lt, cond_both, cond-false, cond-true, eq-eqb, eqb-false, le-leb, leb-true, lt-ltb, ltb-true, ne_eqb, not_from_false, not-true}
-use Rattle.std.specs.List.{AllByRecursion as All}
+use Rattle.std.specs.List.{AllByRecursion}
 
 -- a cell set for each row
 abbrev pub put_in : {A : Type 0} → (A → ℕ) → (A → ℕ) → List ℕ → A → List ℕ
@@ -69,7 +69,7 @@ module _ {A : Type 0} (n : ℕ) (place value : A → ℕ) where
   length_put cells [] = refl
   length_put cells (row ∷ rows) = length_put (set cells (place row) (value row)) rows ∙ length-set cells (place row) (value row)
 
-  pub all_put : (P : ℕ → Type 0) (cells : List ℕ) (rows : List A) → All P cells → All (λ row. P (value row)) rows → All P (after (put_in place value) cells rows)
+  pub all_put : (P : ℕ → Type 0) (cells : List ℕ) (rows : List A) → AllByRecursion P cells → AllByRecursion (λ row. P (value row)) rows → AllByRecursion P (after (put_in place value) cells rows)
   unfolding after
   all_put P cells [] h k = h
   all_put P cells (row ∷ rows) h k = all_put P (set cells (place row) (value row)) rows (All-set P cells (place row) (value row) k.0 h) k.1
@@ -83,7 +83,7 @@ module _ {A : Type 0} (n : ℕ) (place value : A → ℕ) where
       let a = p.0.above in
       untouched kept (place row + 1) j (set cells (place row) (kept row)) rows p.1 (omega arith) ∙ get_or-set_other cells (place row) j (kept row) 0 (λ e. omega arith)
 
-  pub found_again : (kept : A → ℕ) (next : ℕ) (cells : List ℕ) (rows : List A) → Rises next rows → length cells ≡ n → All (λ row. get_or (after (put_in place kept) cells rows) (place row) 0 ≡ kept row) rows
+  pub found_again : (kept : A → ℕ) (next : ℕ) (cells : List ℕ) (rows : List A) → Rises next rows → length cells ≡ n → AllByRecursion (λ row. get_or (after (put_in place kept) cells rows) (place row) 0 ≡ kept row) rows
   unfolding after
   found_again kept next cells [] h long = tt
   found_again kept next cells (row ∷ rows) h long =
@@ -109,7 +109,7 @@ module _ {A : Type 0} (n : ℕ) (place value : A → ℕ) where
   unfolding listed
   full_listed make i x cells row rows o e f = cond-false (eqb x 0) (listed make (i + 1) cells) (make i x ∷ listed make (i + 1) cells) (ne_eqb x 0 o) ∙ ap (λ (r : A). r ∷ listed make (i + 1) cells) e ∙ ap (λ (l : List A). row ∷ l) f
 
-  pub spread : (make : ℕ → ℕ → A) (m next : ℕ) (front : List ℕ) (rows : List A) → length front ≡ next → next + m ≡ n → Rises next rows → All (λ row. make (place row) (value row) ≡ row) rows → Spread make next m front rows
+  pub spread : (make : ℕ → ℕ → A) (m next : ℕ) (front : List ℕ) (rows : List A) → length front ≡ next → next + m ≡ n → Rises next rows → AllByRecursion (λ row. make (place row) (value row) ≡ row) rows → Spread make next m front rows
   unfolding after listed
   spread make zero next front [] here all h k = record { cells = []; made = refl; again = refl }
   spread make zero next front (row ∷ rows) here all h k =
@@ -142,16 +142,16 @@ module _ {A : Type 0} (n : ℕ) (place value : A → ℕ) where
       })
       (cases_eq (place row) next)
 
-  pub relisted : (make : ℕ → ℕ → A) (rows : List A) → Rises 0 rows → All (λ row. make (place row) (value row) ≡ row) rows → listed make 0 (after (put_in place value) (replicate n 0) rows) ≡ rows
+  pub relisted : (make : ℕ → ℕ → A) (rows : List A) → Rises 0 rows → AllByRecursion (λ row. make (place row) (value row) ≡ row) rows → listed make 0 (after (put_in place value) (replicate n 0) rows) ≡ rows
   relisted make rows h k = let s = spread make n 0 [] rows refl (omega arith) h k in ap (listed make 0) s.made ∙ s.again
 
   -- what holds of the rows of a table, and how many they can be
-  pub all_listed : (make : ℕ → ℕ → A) (P : A → Type 0) (Q : ℕ → Type 0) → ((i x : ℕ) → i < n → Q x → P (make i x)) → (i : ℕ) (xs : List ℕ) → i + length xs ≡ n → All Q xs → All P (listed make i xs)
+  pub all_listed : (make : ℕ → ℕ → A) (P : A → Type 0) (Q : ℕ → Type 0) → ((i x : ℕ) → i < n → Q x → P (make i x)) → (i : ℕ) (xs : List ℕ) → i + length xs ≡ n → AllByRecursion Q xs → AllByRecursion P (listed make i xs)
   unfolding listed
   all_listed make P Q f i [] long h = tt
   all_listed make P Q f i (x ∷ xs) long h =
       let k = all_listed make P Q f (i + 1) xs (omega arith) h.1 in
-      cond_both (eqb x 0) (listed make (i + 1) xs) (make i x ∷ listed make (i + 1) xs) (All P) (λ b. k) (λ b. (f i x (omega arith) h.0, k))
+      cond_both (eqb x 0) (listed make (i + 1) xs) (make i x ∷ listed make (i + 1) xs) (AllByRecursion P) (λ b. k) (λ b. (f i x (omega arith) h.0, k))
 
   pub few_listed : (make : ℕ → ℕ → A) (i : ℕ) (xs : List ℕ) → length (listed make i xs) ≤ length xs
   unfolding listed

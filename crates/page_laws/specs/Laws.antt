@@ -5,7 +5,7 @@ use Rattle.wire.specs.Exact.{Exact}
 use Rattle.page.specs.Page.{RawPage, judged_in, loaded, page_bytes, page_of, raw_page_bytes, raw_page_of, with_rows}
 use Rattle.page.specs.declared.rows.Client.{Client}
 use Rattle.page.specs.declared.rows.Shelf.{Shelf}
-use Rattle.std.specs.List.{AllByRecursion as All}
+use Rattle.std.specs.List.{AllByRecursion}
 use Rattle.store.specs.Store.{Store, bare, last, played, whole, word}
 use Rattle.store.specs.declared.ask.Ask.{Ask}
 use Rattle.store.specs.declared.ask.Ask.TheVariants.{Put, Take, Look}
@@ -24,9 +24,9 @@ pub record ClientFits (row : Client) : Type 0 where
 pub record RawPageFits (p : RawPage) : Type 0 where
   pub before : p.before < 2 ^ 32
   pub few_shelves : length p.shelves ≤ 1024
-  pub shelves : All ShelfFits p.shelves
+  pub shelves : AllByRecursion ShelfFits p.shelves
   pub few_clients : length p.clients ≤ 256
-  pub clients : All ClientFits p.clients
+  pub clients : AllByRecursion ClientFits p.clients
 
 -- Bytes that are read as a page are exactly those that begin with the bytes of one, in range or not;
 -- any others are cut short, or have a count above its limit.
@@ -45,9 +45,9 @@ accepted_page bs = raw_page_of bs then λ p bs. cond (judged_in p).sound (Some (
 -- a store that a page can hold: tables of the right lengths, numbers of four bytes, and no word for a client that has done nothing
 pub record StoreFits (s : Store) : Type 0 where
   pub tables : whole s ≡ true
-  pub shelves : All (λ n. n < 2 ^ 32) s.shelves
-  pub lasts : All (λ n. n < 2 ^ 32) s.lasts
-  pub words : All (λ n. n < 2 ^ 32) s.words
+  pub shelves : AllByRecursion (λ n. n < 2 ^ 32) s.shelves
+  pub lasts : AllByRecursion (λ n. n < 2 ^ 32) s.lasts
+  pub words : AllByRecursion (λ n. n < 2 ^ 32) s.words
   pub idle : (client : ℕ) → last s client ≡ 0 → word s client ≡ 0
 
 pub record PagedFits (v : Paged) : Type 0 where
@@ -77,5 +77,5 @@ pub record RequestFits (r : Request) : Type 0 where
 
 -- Every store that requests make of a bare one has a page, and so has all that they make of a store that has one.
 pub record Reached : Type 0 where
-  pub begun : (rs : List Request) → All RequestFits rs → StoreFits (played bare rs)
-  pub onward : (s : Store) (rs : List Request) → StoreFits s → All RequestFits rs → StoreFits (played s rs)
+  pub begun : (rs : List Request) → AllByRecursion RequestFits rs → StoreFits (played bare rs)
+  pub onward : (s : Store) (rs : List Request) → StoreFits s → AllByRecursion RequestFits rs → StoreFits (played s rs)

@@ -11,7 +11,7 @@ use Rattle.quorum.specs.Sets.{is_most}
 use Rattle.quorum.specs.Tally.{takers}
 use Rattle.std.proofs.lemmas.List.{drop_at, length-append, length_push, take_all}
 use Rattle.std.proofs.lemmas.Bool.{cases_lt, eqb-true, ltb-true}
-use Rattle.std.specs.List.{AllByRecursion as All}
+use Rattle.std.specs.List.{AllByRecursion}
 use Rattle.steps.specs.Heads.{closes_at, counts_from, counts_itself, last_of}
 use Rattle.steps.specs.Steps.{View, asks, begins, behind, closes, counts, decides, gets, gives, hears, leads, proposes, stops, takes}
 use Rattle.steps_laws.proofs.Bits.{in_none, is_member, is_most_lem, none_said, noted_said, said_more, took_many}
@@ -324,12 +324,12 @@ module _ {air : List Msg} {v : View} {o : List Entry} (S : Stands air v o) where
   letter_right F (Takes t b from n) m = counts_right t b from n m
   letter_right F (Begins t ms n s) m = begins_right t ms n s m
 
-  any_right : Facts air (station_of v o) → (letters : List Letter) (k : ℕ) → All (Means air) letters → Right air v o (gets_any (letter_at letters k) v)
+  any_right : Facts air (station_of v o) → (letters : List Letter) (k : ℕ) → AllByRecursion (Means air) letters → Right air v o (gets_any (letter_at letters k) v)
   any_right F [] k a = stays
   any_right F (x ∷ letters) zero a = letter_right F x a.0
   any_right F (x ∷ letters) (suc k) a = any_right F letters k a.1
 
-  pub right : Facts air (station_of v o) → (letters : List Letter) → All (Means air) letters → (x : Happening) → Right air v o (happens x letters v)
+  pub right : Facts air (station_of v o) → (letters : List Letter) → AllByRecursion (Means air) letters → (x : Happening) → Right air v o (happens x letters v)
   right F letters a (ask b) = asks_right b
   right F letters a (get k) = any_right F letters k a
   right F letters a lead = leads_right

@@ -8,7 +8,7 @@ use Rattle.council.specs.Rules.{Anything, Local, Msg, Net, Reach, Run, Station, 
 use Rattle.entry.specs.declared.entry.Entry.{Entry}
 use Rattle.message.specs.Letter.{Letter}
 use Rattle.std.proofs.lemmas.Bool.{eqb-true}
-use Rattle.std.specs.List.{AllByRecursion as All}
+use Rattle.std.specs.List.{AllByRecursion}
 use Rattle.steps.specs.Steps.{Done, Outcome, Refused, View}
 use Rattle.steps_laws.proofs.Bits.{none_said}
 use Rattle.steps_laws.proofs.Keep.{none_live}
@@ -30,7 +30,7 @@ pub record Fine (ms : Members) (w : World) : Type 0 where
   pub net : Net
   pub reach : Reach ms net
   pub each : (i : ℕ) → Sits net.air i (w.view i) (net.station i)
-  pub air : All (Means net.air) w.air
+  pub air : AllByRecursion (Means net.air) w.air
 
 pub opened : (ms : Members) → Fine ms (opening ms)
 opened ms =
@@ -92,7 +92,7 @@ module _ {ms : Members} {w : World} (F : Fine ms w) (i : ℕ) where
           net = n;
           reach = F.reach;
           each = all [] n.station here;
-          air = all_append (Means n.air) w.air sent F.air (subst (λ (new : List Msg). All (Means (new ++ n.air)) sent) x.1 M.means);
+          air = all_append (Means n.air) w.air sent F.air (subst (λ (new : List Msg). AllByRecursion (Means (new ++ n.air)) sent) x.1 M.means);
         },
         inl refl,
       )

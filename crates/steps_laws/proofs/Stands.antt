@@ -9,7 +9,7 @@ use Rattle.entry.specs.declared.entry.Entry.{Entry}
 use Rattle.message.specs.Letter.{Asks, Begins, Letter, Parts, Promises, Takes}
 use Rattle.quorum.specs.Sets.{inserted}
 use Rattle.std.proofs.lemmas.Bool.{cases_lt, and_parts, eqb-false, eqb-true, ltb-false, ltb-true, or_cases, or_parts, and_cases}
-use Rattle.std.specs.List.{AllByRecursion as All}
+use Rattle.std.specs.List.{AllByRecursion}
 use Rattle.steps.specs.Steps.{Done, Outcome, Refused, View}
 use Rattle.steps_laws.proofs.Bits.{Said, in_inserted, in_none, said_more}
 use Rattle.steps_laws.specs.Laws.{Means, Whole}
@@ -61,11 +61,11 @@ means_more air new (Parts t b p es) m = (m.0, Memᴰ.append_right new m.1, m.2, 
 means_more air new (Takes t b from n) m = Memᴰ.append_right new m
 means_more air new (Begins t ms n s) m = (m.0, Memᴰ.append_right new m.1, m.2, m.3)
 
-pub all_mean_more : (air new : List Msg) (xs : List Letter) → All (Means air) xs → All (Means (new ++ air)) xs
+pub all_mean_more : (air new : List Msg) (xs : List Letter) → AllByRecursion (Means air) xs → AllByRecursion (Means (new ++ air)) xs
 all_mean_more air new [] a = tt
 all_mean_more air new (x ∷ xs) a = (means_more air new x a.0, all_mean_more air new xs a.1)
 
-pub all_append : (P : Letter → Type 0) (xs ys : List Letter) → All P xs → All P ys → All P (xs ++ ys)
+pub all_append : (P : Letter → Type 0) (xs ys : List Letter) → AllByRecursion P xs → AllByRecursion P ys → AllByRecursion P (xs ++ ys)
 all_append P [] ys a b = b
 all_append P (x ∷ xs) ys a b = (a.0, all_append P xs ys a.1 b)
 
@@ -131,7 +131,7 @@ pub record Moved (air : List Msg) (v : View) (o : List Entry) (u : View) (sent :
   pub me : u.head.me ≡ v.head.me
   pub move : ((station_of u old ≡ station_of v o) × (new ≡ [])) ⊎ Local Anything v.head.me air (station_of v o) (station_of u old) new
   pub stands : Stands (new ++ air) u old
-  pub means : All (Means (new ++ air)) sent
+  pub means : AllByRecursion (Means (new ++ air)) sent
 
 abbrev pub Right : List Msg → View → List Entry → Outcome → Type 0
 Right air v o (Refused r begin) = Moved air v o v begin

@@ -6,7 +6,7 @@ use Rattle.council.specs.Quorum.{Members, Sound}
 use Rattle.council.specs.Rules.{Anything, Ask, Begin, Log, Msg, Net, Promise, Reach, Station, Step, Took, ◌∈◌, known}
 use Rattle.entry.specs.declared.entry.Entry.{Entry}
 use Rattle.message.specs.Letter.{Asks, Begins, Letter, Parts, Promises, Takes}
-use Rattle.std.specs.List.{AllByRecursion as All}
+use Rattle.std.specs.List.{AllByRecursion}
 use Rattle.steps.specs.Steps.{Done, Outcome, Refused, View, answers}
 use Rattle.steps_laws.specs.World.{Happening, World, happened, happens, opening, run}
 use Rattle.store.specs.Store.{played}
@@ -67,7 +67,7 @@ Means air (Begins t ms n s) = (o : List Entry) × (Begin t o ms ∈ air) × (n �
 -- a world and a net of the rules that is the same
 pub record Mirrors (w : World) (n : Net) : Type 0 where
   pub each : (i : ℕ) → Shows i (w.view i) (n.station i)
-  pub air : All (Means n.air) w.air
+  pub air : AllByRecursion (Means n.air) w.air
 
 -- Whatever happened is a run of the rules; and whatever happens next, at any station, is one step of it, or nothing that the rules see.
 abbrev pub Refines : Type 0

@@ -6,7 +6,7 @@ use Rattle.wire.specs.Exact.{Bytes, Exact}
 use Rattle.wire.specs.Several.{joined, several}
 use Rattle.std.proofs.lemmas.List.{append_assoc}
 use Rattle.std.proofs.lemmas.Bool.{cases_Bool, cond-false, cond-true, le-ltb, ltb-false}
-use Rattle.std.specs.List.{AllByRecursion as All}
+use Rattle.std.specs.List.{AllByRecursion}
 
 -- what a reader that is exact read: something that fits, its bytes, and bytes behind it
 pub record Took {A : Type 0} (bytes : A → List ℕ) (Fits : A → Type 0) (bs : List ℕ) (a : A) (rest : List ℕ) : Type 0 where
@@ -20,7 +20,7 @@ took {bytes = w} x bs a rest h e = let o = x.only bs a rest h e in record { fits
 module _ {A : Type 0} {reads : List ℕ → Read A} {bytes : A → List ℕ} {Fits : A → Type 0} (exact : Exact reads bytes Fits) where
   -- n of them, each of which fits
   abbrev Run : ℕ → List A → Type 0
-  Run n xs = (length xs ≡ n) × All Fits xs
+  Run n xs = (length xs ≡ n) × AllByRecursion Fits xs
 
   several_back : (n : ℕ) (xs rest : _) → Run n xs → several reads n (joined bytes xs ++ rest) ≡ Some (xs, rest)
   unfolding several joined
@@ -48,11 +48,11 @@ module _ {A : Type 0} {reads : List ℕ → Read A} {bytes : A → List ℕ} {Fi
         t.is ∙ ap (λ (l : List ℕ). bytes s.value ++ l) (o.1 ∙ ap (λ (l : List ℕ). joined bytes u.value ++ l) (same_rest u.second)) ∙ sym (append_assoc (bytes s.value) (joined bytes u.value) rest),
       )
 
-  pub several_exact : (n : ℕ) → Exact (several reads n) (joined bytes) (λ xs. (length xs ≡ n) × All Fits xs)
+  pub several_exact : (n : ℕ) → Exact (several reads n) (joined bytes) (λ xs. (length xs ≡ n) × AllByRecursion Fits xs)
   several_exact n = record { back = several_back n; only = several_only n }
 
   -- how many there are, in two bytes and at most a limit, and then each
-  counted_back : (limit : ℕ) → limit < 65536 → (xs : List A) (rest : List ℕ) → (length xs ≤ limit) × All Fits xs →
+  counted_back : (limit : ℕ) → limit < 65536 → (xs : List A) (rest : List ℕ) → (length xs ≤ limit) × AllByRecursion Fits xs →
       (two ((two_bytes (length xs) ++ joined bytes xs) ++ rest) then λ n bs. cond (ltb limit n) None (several reads n bs)) ≡ Some (xs, rest)
   counted_back limit low xs rest h =
       let few = h.0 in
@@ -60,7 +60,7 @@ module _ {A : Type 0} {reads : List ℕ → Read A} {bytes : A → List ℕ} {Fi
       cond-false (ltb limit (length xs)) None (several reads (length xs) (joined bytes xs ++ rest)) (le-ltb limit (length xs) h.0) ∙ several_back (length xs) xs rest (refl, h.1)
 
   counted_only : (limit : ℕ) → (bs : List ℕ) (xs : List A) (rest : List ℕ) → Bytes bs → (two bs then λ n bs. cond (ltb limit n) None (several reads n bs)) ≡ Some (xs, rest) →
-      ((length xs ≤ limit) × All Fits xs) × (bs ≡ (two_bytes (length xs) ++ joined bytes xs) ++ rest)
+      ((length xs ≤ limit) × AllByRecursion Fits xs) × (bs ≡ (two_bytes (length xs) ++ joined bytes xs) ++ rest)
   counted_only limit bs xs rest h e =
       let s = split (two bs) _ (xs, rest) e in
       let t = took two_exact bs s.value s.rest h s.first in
@@ -74,7 +74,7 @@ module _ {A : Type 0} {reads : List ℕ → Read A} {bytes : A → List ℕ} {Fi
       ((omega arith, o.0.1), t.is ∙ ap (λ (l : List ℕ). two_bytes n ++ l) o.1 ∙ ap (λ (k : ℕ). two_bytes k ++ (joined bytes xs ++ rest)) (sym long)))
       (cases_Bool (ltb limit n))
 
-  pub counted_exact : (limit : ℕ) → limit < 65536 → Exact (λ bs. two bs then λ n bs. cond (ltb limit n) None (several reads n bs)) (λ xs. two_bytes (length xs) ++ joined bytes xs) (λ xs. (length xs ≤ limit) × All Fits xs)
+  pub counted_exact : (limit : ℕ) → limit < 65536 → Exact (λ bs. two bs then λ n bs. cond (ltb limit n) None (several reads n bs)) (λ xs. two_bytes (length xs) ++ joined bytes xs) (λ xs. (length xs ≤ limit) × AllByRecursion Fits xs)
   counted_exact limit low = record { back = counted_back limit low; only = counted_only limit }
 
 -- one thing, and another behind it

@@ -1,11 +1,11 @@
 -- When a format's reader and writer fit each other.
 use Rattle.std.specs.Prelude.{◌≡◌, ℕ, ◌^◌, ◌<◌, List, ◌++◌, length, Some}
 use Rattle.wire.specs.Bytes.{Read, four, four_bytes, one, one_byte, some, two, two_bytes}
-use Rattle.std.specs.List.{AllByRecursion as All}
+use Rattle.std.specs.List.{AllByRecursion}
 
 -- each is a byte
 abbrev pub Bytes : List ℕ → Type 0
-Bytes bs = All (λ b. b < 256) bs
+Bytes bs = AllByRecursion (λ b. b < 256) bs
 
 -- back: what was written is read back, and all that stands behind it is left.
 -- only: whatever is read is something that can be written, and its bytes are exactly those that writing it gives.
