@@ -45,10 +45,6 @@ ended m body true false true = refl
 ended m body true true false = refl
 ended m body true true true = refl
 
-always : (s : Bool) → (s && true) ≡ s
-always true = refl
-always false = refl
-
 swapped : (s t : Bool) → (s && t) ≡ (t && s)
 swapped true true = refl
 swapped true false = refl
