@@ -1,1 +1,2 @@
 mod Idle
+pub mod Whole

@@ -1,3 +1,4 @@
 pub mod Ask
 pub mod Refusal
 pub mod Store
+pub mod Tables

@@ -15,13 +15,13 @@ pub record Store : Type 0 where
 abbrev pub tables : List ℕ → List ℕ → List ℕ → Store
 tables shelves lasts words = record { shelves = shelves; lasts = lasts; words = words }
 
--- the store that three lent slices hold
-abbrev pub lent : List ℕ → List ℕ → List ℕ → Store
-lent shelves lasts words = tables shelves lasts words
-
 -- as a register begins
 abbrev pub bare : Store
 bare = tables (replicate 1024 0) (replicate 256 0) (replicate 256 0)
+
+-- the same tables, each word 0
+abbrev pub cleared : Store → Store
+cleared s = tables (replicate (length s.shelves) 0) (replicate (length s.lasts) 0) (replicate (length s.words) 0)
 
 -- the tables have a place for each of the 1,024 shelves and the 256 clients, and no more
 abbrev pub whole : Store → Bool

@@ -1,8 +1,10 @@
 // What a request asks of one shelf.
 ghost use Rattle.store.specs.Ask.{key_of, leaves, says};
-ghost use Rattle.std.specs.Prelude.{◌≡◌};
+ghost use Rattle.std.specs.Prelude.{◌≡◌, nat_lt};
 
-#[derive(Clone, Copy)]
+use crate::tables::SHELVES;
+
+#[derive(Clone, Copy, PartialEq, Eq, Debug)]
 pub enum Ask {
     Put { key: u16, value: u32 },
     Take { key: u16, amount: u32 },
@@ -17,6 +19,13 @@ impl Ask {
         match self {
             Ask::Put { key, .. } | Ask::Take { key, .. } | Ask::Look { key } => key,
         }
+    }
+
+    // Whether there is such a shelf.
+    pub fn names_shelf(self) -> bool
+        ensures { result ≡ nat_lt (key_of self) 1024 }
+    {
+        usize::from(self.key()) < SHELVES
     }
 
     // What the shelf holds afterwards, if it held that much.

@@ -4,7 +4,9 @@
 mod ask;
 mod refusal;
 mod request;
+mod tables;
 
 pub use ask::Ask;
 pub use refusal::Refusal;
-pub use request::{CLIENTS, Request, SHELVES, apply_all, is_whole};
+pub use request::{Request, apply_all};
+pub use tables::{CLIENTS, SHELVES, Tables, TablesMut, WholeTables};

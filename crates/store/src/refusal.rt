@@ -12,12 +12,12 @@ pub enum Refusal {
     NotNext,
 }
 
-impl Refusal {
-    // Its number in the table of refusals.
-    pub fn number(self) -> u8
-        ensures { result ≡ number_of self }
-    {
-        match self {
+// Its number in the table of refusals.
+impl From<Refusal> for u8 {
+    ghost from_gives = { λ refusal number. number ≡ number_of refusal };
+
+    fn from(refusal: Refusal) -> u8 {
+        match refusal {
             Refusal::Tables => 1,
             Refusal::Key => 2,
             Refusal::NotNext => 13,

@@ -1,16 +1,14 @@
 // A client's request, and what doing it does to a store in lent memory.
-ghost use Rattle.std.specs.Prelude.{◌≡◌, ◌≤◌};
-ghost use Rattle.store.specs.Store.{applied, counted, lent, outcome, played, tally, totalled, whole};
+ghost use Rattle.std.specs.Prelude.{◌≡◌};
+ghost use Rattle.store.specs.Store.{applied, outcome, played, totalled};
+ghost use Rattle.store.specs.Tables.{SameLoans, held, held_mut};
 
 use crate::ask::Ask;
 use crate::refusal::Refusal;
-
-pub const SHELVES: usize = 1024;
-
-pub const CLIENTS: usize = 256;
+use crate::tables::{Tables, TablesMut};
 
 // The number-th request of a client.
-#[derive(Clone, Copy)]
+#[derive(Clone, Copy, PartialEq, Eq, Debug)]
 pub struct Request {
     pub client: u8,
     pub number: u32,
@@ -19,89 +17,51 @@ pub struct Request {
 
 impl Request {
     // The word that doing it now gets, or why it is refused.
-    pub fn outcome(self, shelves: &[u32], lasts: &[u32], words: &[u32]) -> Result<u32, Refusal>
-        ensures { result ≡ outcome self (lent shelves.now lasts.now words.now) }
+    pub fn outcome(self, store: Tables<'_>) -> Result<u32, Refusal>
+        ensures { result ≡ outcome self (held store.entry) }
     {
-        if !is_whole(shelves, lasts, words) {
-            return Err(Refusal::Tables);
-        }
-        let key = usize::from(self.ask.key());
-        if key >= SHELVES {
+        let store = store.whole().ok_or(Refusal::Tables)?.tables;
+        if !self.ask.names_shelf() {
             return Err(Refusal::Key);
         }
-        let last = lasts[usize::from(self.client)];
-        if last == u32::MAX || self.number != last + 1 {
+        let last = store.lasts[usize::from(self.client)];
+        if last.checked_add(1) != Some(self.number) {
             return Err(Refusal::NotNext);
         }
-        Ok(self.ask.word(shelves[key]))
+        Ok(self.ask.word(store.shelves[usize::from(self.ask.key())]))
     }
 
     // Does it: its shelf, its client's last and word. Refused, it changes nothing.
-    pub fn apply(
-        self,
-        shelves: &mut [u32],
-        lasts: &mut [u32],
-        words: &mut [u32],
-    ) -> Result<u32, Refusal>
-        ensures word { result ≡ outcome self (lent shelves.old lasts.old words.old) }
-        ensures store { lent shelves.new lasts.new words.new ≡ applied self (lent shelves.old lasts.old words.old) }
+    pub fn apply(self, store: &mut TablesMut<'_>) -> Result<u32, Refusal>
+        ensures word { result ≡ outcome self (held_mut store.old) }
+        ensures store { held_mut store.new ≡ applied self (held_mut store.old) }
+        ensures loans { SameLoans store.old store.new }
     {
-        let word = self.outcome(shelves, lasts, words)?;
+        let word = self.outcome(store.as_tables())?;
         let key = usize::from(self.ask.key());
         let client = usize::from(self.client);
-        shelves[key] = self.ask.leaves(shelves[key]);
-        lasts[client] = self.number;
-        words[client] = word;
+        store.shelves[key] = self.ask.leaves(store.shelves[key]);
+        store.lasts[client] = self.number;
+        store.words[client] = word;
         Ok(word)
     }
 }
 
-// Whether the slices are the tables of a store: a word for each shelf, two for each client.
-pub fn is_whole(shelves: &[u32], lasts: &[u32], words: &[u32]) -> bool
-    ensures { result ≡ whole (lent shelves.now lasts.now words.now) }
-{
-    shelves.len() == SHELVES && lasts.len() == CLIENTS && words.len() == CLIENTS
-}
-
-// Does one request: 1 if it was done, 0 if it was refused.
-fn count_done(request: Request, shelves: &mut [u32], lasts: &mut [u32], words: &mut [u32]) -> usize
-    ensures count { result ≡ counted request (lent shelves.old lasts.old words.old) }
-    ensures bound { result ≤ 1 }
-    ensures store { lent shelves.new lasts.new words.new ≡ applied request (lent shelves.old lasts.old words.old) }
-{
-    match request.apply(shelves, lasts, words) {
-        Ok(_) => 1,
-        Err(_) => 0,
-    }
-}
-
-// Does requests one after the other, passing over those that are refused: how many were done.
-fn fold(requests: &[Request], shelves: &mut [u32], lasts: &mut [u32], words: &mut [u32]) -> usize
-    ensures count { result ≡ tally (lent shelves.old lasts.old words.old) requests.now }
-    ensures store { lent shelves.new lasts.new words.new ≡ played (lent shelves.old lasts.old words.old) requests.now }
-{
-    let mut count = 0;
-    let mut rest = requests;
-    while let Some((request, after)) = rest.split_first() {
-        count += count_done(*request, shelves, lasts, words);
-        rest = after;
-    }
-    count
-}
-
 // Does requests one after the other, passing over those that are refused: how many were done.
 // Slices that are no store are refused, and nothing changes.
-pub fn apply_all(
-    requests: &[Request],
-    shelves: &mut [u32],
-    lasts: &mut [u32],
-    words: &mut [u32],
-) -> Result<usize, Refusal>
-    ensures count { result ≡ totalled (lent shelves.old lasts.old words.old) requests.now }
-    ensures store { lent shelves.new lasts.new words.new ≡ played (lent shelves.old lasts.old words.old) requests.now }
+pub fn apply_all(requests: &[Request], store: &mut TablesMut<'_>) -> Result<usize, Refusal>
+    ensures count { result ≡ totalled (held_mut store.old) requests.now }
+    ensures store { held_mut store.new ≡ played (held_mut store.old) requests.now }
+    ensures loans { SameLoans store.old store.new }
 {
-    if !is_whole(shelves, lasts, words) {
+    if !store.is_whole() {
         return Err(Refusal::Tables);
     }
-    Ok(fold(requests, shelves, lasts, words))
+    let mut done = 0;
+    for request in requests {
+        if request.apply(store).is_ok() {
+            done += 1;
+        }
+    }
+    Ok(done)
 }

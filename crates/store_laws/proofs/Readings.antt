@@ -3,12 +3,13 @@ use Rattle.std.proofs.Common.{◌≡◌, ℕ, ◌<◌, Bool, true, false, not, �
 use Rattle.std.proofs.lemmas.List.{get_or-set_other, get_or-set_same, length-set}
 use Rattle.std.proofs.lemmas.Bool.{cases_Bool, cases_eq, cond-false, cond-true, eq-eqb, ne_eqb}
 use Rattle.std.proofs.lemmas.Bool.Decides.{nat_tests}
+use Rattle.store.proofs.Whole.{lengths}
 use Rattle.store.specs.Ask.{key_of, leaves, says}
 use Rattle.store.specs.Store.{Store, applied, done, is_next, played, shelf, whole}
 use Rattle.store.specs.declared.refusal.Refusal.TheVariants.{Key, NotNext, Tables}
 use Rattle.store.specs.declared.request.Request.{Request}
 use Rattle.store_laws.proofs.Lists.{zeros}
-use Rattle.store_laws.proofs.Steps.{all_passed, done_is, idle, lengths}
+use Rattle.store_laws.proofs.Steps.{all_passed, done_is, idle}
 use Rattle.store_laws.specs.Reading.{Reading, ReadsAs, act, acted, at, due, reading}
 use mathlib.Core.Path.{fun_ext}
 

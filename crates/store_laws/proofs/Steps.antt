@@ -1,7 +1,8 @@
 -- What one request does to its own client's row and to the others', whatever it asks.
-use Rattle.std.proofs.Common.{◌≡◌, ℕ, ◌+◌, ◌<◌, Bool, true, false, cond, not, ◌&&◌, eqb, ltb, length, set, is_ok, Ok, Err, sym, refl, ap, ◌∙◌, arith}
+use Rattle.std.proofs.Common.{◌≡◌, ℕ, ◌+◌, ◌<◌, Bool, true, false, cond, not, ◌&&◌, eqb, ltb, set, is_ok, Ok, Err, sym, refl, ap, ◌∙◌, arith}
 use Rattle.std.proofs.lemmas.List.{get_or-set_same, get_or-set_other}
 use Rattle.std.proofs.lemmas.Bool.{and_parts, cond-true, eqb-true, false≢true, ltb-false, ltb-true}
+use Rattle.store.proofs.Whole.{lengths}
 use Rattle.store.specs.Ask.{key_of, leaves, says}
 use Rattle.store.specs.Store.{Store, applied, done, is_next, last, outcome, shelf, tables, whole, word}
 use Rattle.store.specs.declared.refusal.Refusal.TheVariants.{Key, NotNext, Tables}
@@ -28,18 +29,6 @@ passed false b c e f g x h = absurd (false≢true h)
 
 passes : {T E : Type 0} {a b c : Bool} (e f g : E) (x : T) → Passed a b c → cond (not a) (Err e) (cond b (Err f) (cond (not c) (Err g) (Ok x))) ≡ Ok x
 passes e f g x p = simp (p.first, p.second, p.third)
-
--- tables that are whole have their lengths
-pub record Lengths (s : Store) : Type 0 where
-  pub shelves : length s.shelves ≡ 1024
-  pub lasts : length s.lasts ≡ 256
-  pub words : length s.words ≡ 256
-
-pub lengths : (s : Store) → whole s ≡ true → Lengths s
-lengths s h =
-    let p = and_parts (eqb (length s.shelves) 1024) _ h in
-    let q = and_parts (eqb (length s.lasts) 256) (eqb (length s.words) 256) p.1 in
-    record { shelves = eqb-true _ _ p.0; lasts = eqb-true _ _ q.0; words = eqb-true _ _ q.1 }
 
 -- the tables behind a request that is done
 abbrev pub after : Request → Store → Store

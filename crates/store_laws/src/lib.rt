@@ -5,38 +5,30 @@
 ghost use Rattle.store_laws.specs.Laws.{OnlyNext, Once, NeverFalls, InTurn, KeepsWord};
 ghost use Rattle.store_laws.specs.Reading.{ReadsAs};
 
-pub fn only_the_next_is_done() -> u8
+pub fn only_the_next_is_done()
     ensures { OnlyNext }
-{
-    0
-}
+{}
 
-pub fn done_once() -> u8
+#[tactic(auto, using(crate::proofs::Lists::once))]
+pub fn done_once()
     ensures { Once }
-{
-    0
-}
+{}
 
-pub fn lasts_never_fall() -> u8
+#[tactic(auto, using(crate::proofs::Lists::never_falls))]
+pub fn lasts_never_fall()
     ensures { NeverFalls }
-{
-    0
-}
+{}
 
-pub fn done_in_turn() -> u8
+pub fn done_in_turn()
     ensures { InTurn }
-{
-    0
-}
+{}
 
-pub fn word_kept_is_word_got() -> u8
+#[tactic(auto, using(crate::proofs::Lists::keeps_word))]
+pub fn word_kept_is_word_got()
     ensures { KeepsWord }
-{
-    0
-}
+{}
 
-pub fn tables_read_as_functions() -> u8
+#[tactic(auto, using(crate::proofs::Readings::reads_as))]
+pub fn tables_read_as_functions()
     ensures { ReadsAs }
-{
-    0
-}
+{}
