@@ -2,4 +2,4 @@ pub mod Over
 pub mod Exacts
 pub mod Turns
 pub mod Runs
-pub mod Repeats
+pub mod Joined

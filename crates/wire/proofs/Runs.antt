@@ -1,11 +1,11 @@
 -- Readers that are exact, put together.
-use Rattle.std.proofs.Common.{◌≡◌, ℕ, zero, suc, ◌<◌, ◌≤◌, true, false, cond, ltb, List, [], ◌∷◌, ◌++◌, length, Some, None, sym, refl, ap, ◌∙◌, subst, ⊎_elim, arith}
-use Rattle.wire.proofs.Exacts.{bytes_behind, none_some, same_rest, same_value, split, two_exact}
+use Rattle.std.proofs.Common.{◌≡◌, ℕ, zero, suc, ◌<◌, ◌≤◌, cond, ltb, List, [], ◌∷◌, ◌++◌, length, Some, None, sym, refl, ap, ◌∙◌, subst, arith}
+use Rattle.wire.proofs.Exacts.{bytes_behind, same_rest, same_value, split, two_exact, within}
 use Rattle.wire.specs.Bytes.{Read, ◌then◌, two, two_bytes}
 use Rattle.wire.specs.Exact.{Bytes, Exact}
 use Rattle.wire.specs.Several.{joined, several}
 use Rattle.std.proofs.lemmas.List.{append_assoc}
-use Rattle.std.proofs.lemmas.Bool.{cases_Bool, cond-false, cond-true, le-ltb, ltb-false}
+use Rattle.std.proofs.lemmas.Bool.{cond-false, le-ltb}
 use Rattle.std.specs.List.{AllByRecursion}
 
 -- what a reader that is exact read: something that fits, its bytes, and bytes behind it
@@ -65,14 +65,10 @@ module _ {A : Type 0} {reads : List ℕ → Read A} {bytes : A → List ℕ} {Fi
       let s = split (two bs) _ (xs, rest) e in
       let t = took two_exact bs s.value s.rest h s.first in
       let n = s.value in
-      ⊎_elim
-      (λ (b : ltb limit n ≡ true). absurd (none_some (sym (cond-true (ltb limit n) None (several reads n s.rest) b) ∙ s.second)))
-      (λ (b : ltb limit n ≡ false).
-      let o = several_only n s.rest xs rest t.behind (sym (cond-false (ltb limit n) None (several reads n s.rest) b) ∙ s.second) in
-      let few = ltb-false limit n b in
+      within (((length xs ≤ limit) × AllByRecursion Fits xs) × (bs ≡ (two_bytes (length xs) ++ joined bytes xs) ++ rest)) limit n (several reads n s.rest) (xs, rest) s.second (λ few e.
+      let o = several_only n s.rest xs rest t.behind e in
       let long = o.0.0 in
       ((omega arith, o.0.1), t.is ∙ ap (λ (l : List ℕ). two_bytes n ++ l) o.1 ∙ ap (λ (k : ℕ). two_bytes k ++ (joined bytes xs ++ rest)) (sym long)))
-      (cases_Bool (ltb limit n))
 
   pub counted_exact : (limit : ℕ) → limit < 65536 → Exact (λ bs. two bs then λ n bs. cond (ltb limit n) None (several reads n bs)) (λ xs. two_bytes (length xs) ++ joined bytes xs) (λ xs. (length xs ≤ limit) × AllByRecursion Fits xs)
   counted_exact limit low = record { back = counted_back limit low; only = counted_only limit }

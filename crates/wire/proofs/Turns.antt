@@ -4,45 +4,17 @@ use Rattle.wire.proofs.Exacts.{same_value, split}
 use Rattle.wire.specs.Bytes.{Read, ◌then◌}
 use Rattle.wire.specs.Several.{after, first, front, made, rest_of, several}
 
--- n of them read, each changing the state as it comes
-unfoldable pub walk : {A S : Type 0} → (List ℕ → Read A) → (S → A → S) → ℕ → S → List ℕ → Read S
-walk reads step zero s bs = Some (s, bs)
-walk reads step (suc n) s bs = reads bs then λ x bs. walk reads step n (step s x) bs
+made_same : {A B : Type 0} (f g : A → B) → ((a : A) → f a ≡ g a) → (o : Read A) → made f o ≡ made g o
+made_same f g same None = refl
+made_same f g same (Some p) = ap (λ b. Some (b, p.1)) (same p.0)
 
-module _ {A S : Type 0} (reads : List ℕ → Read A) (step : S → A → S) where
-  -- one more in front
-  after_more : (s : S) (x : A) (read : Read (List A)) → made (after step (step s x)) read ≡ made (after step s) (read then λ xs bs. Some (x ∷ xs, bs))
-  unfolding after
-  after_more s x None = refl
-  after_more s x (Some p) = refl
+made_cons : {A B : Type 0} (f : List A → B) (x : A) (o : Read (List A)) → made f (o then λ xs bs. Some (x ∷ xs, bs)) ≡ made (λ xs. f (x ∷ xs)) o
+made_cons f x None = refl
+made_cons f x (Some p) = refl
 
-  walk_next : (n : ℕ) (s : S) → ((t : S) (bs : List ℕ) → walk reads step n t bs ≡ made (after step t) (several reads n bs)) →
-      (read : Read A) → (read then λ x bs. walk reads step n (step s x) bs) ≡ made (after step s) (read then λ x bs. several reads n bs then λ xs bs. Some (x ∷ xs, bs))
-  walk_next n s h None = refl
-  walk_next n s h (Some p) = h (step s p.0) p.1 ∙ after_more s p.0 (several reads n p.1)
-
-  -- that is to read all of them, and then to go through them
-  pub walk_is : (n : ℕ) (s : S) (bs : List ℕ) → walk reads step n s bs ≡ made (after step s) (several reads n bs)
-  unfolding walk after several
-  walk_is zero s bs = refl
-  walk_is (suc n) s bs = walk_next n s (walk_is n) (reads bs)
-
-  -- a turn that reads one, a turn that finds none, and no turn left
-  pub walk_more : (n : ℕ) (s t : S) (bs rest : List ℕ) (x : A) → 0 < n → Some (x, rest) ≡ reads bs → t ≡ step s x → walk reads step (n - 1) t rest ≡ walk reads step n s bs
-  unfolding walk
-  walk_more zero s t bs rest x h e f = absurd (omega arith)
-  walk_more (suc n) s t bs rest x h e f =
-      let k : suc n - 1 ≡ n = omega arith in
-      ap (λ (m : ℕ). walk reads step m t rest) k ∙ ap (λ (u : S). walk reads step n u rest) f ∙ ap (λ (o : Read A). o then λ x bs. walk reads step n (step s x) bs) e
-
-  pub walk_cut : (n : ℕ) (s : S) (bs : List ℕ) → 0 < n → None ≡ reads bs → walk reads step n s bs ≡ None
-  unfolding walk
-  walk_cut zero s bs h e = absurd (omega arith)
-  walk_cut (suc n) s bs h e = sym (ap (λ (o : Read A). o then λ x bs. walk reads step n (step s x) bs) e)
-
-  pub walk_none : (n : ℕ) (s : S) (bs : List ℕ) → n ≡ 0 → walk reads step n s bs ≡ Some (s, bs)
-  unfolding walk
-  walk_none n s bs h = ap (λ (m : ℕ). walk reads step m s bs) h
+pub made_then : {A B : Type 0} (f : List A → B) (o : Read A) (more : List ℕ → Read (List A)) → made f (o then λ x bs. more bs then λ xs bs. Some (x ∷ xs, bs)) ≡ (o then λ x bs. made (λ xs. f (x ∷ xs)) (more bs))
+made_then f None more = refl
+made_then f (Some p) more = made_cons f p.0 (more p.1)
 
 module _ {A : Type 0} (reads : List ℕ → Read A) (n i : ℕ) (bs : List ℕ) where
   -- the turns that are left behind i of n
@@ -79,6 +51,33 @@ module _ {A : Type 0} (reads : List ℕ → Read A) (n i : ℕ) (bs : List ℕ) 
   pub rest_none : n ≤ i → rest_of (several reads (n - i) bs) ≡ Some bs
   unfolding several
   rest_none h = let e : n - i ≡ 0 = omega arith in ap (λ (k : ℕ). rest_of (several reads k bs)) e
+
+  -- what a function makes of the things that are left: one more read, none found, and none left
+  made_next : {B : Type 0} (f : List A → B) → i < n → made f (several reads (n - i) bs) ≡ (reads bs then λ x bs. made (λ xs. f (x ∷ xs)) (several reads (n - (i + 1)) bs))
+  unfolding several
+  made_next f h = ap (λ (k : ℕ). made f (several reads k bs)) (turn h) ∙ made_then f (reads bs) (several reads (n - (i + 1)))
+
+  pub made_more : {B : Type 0} (f g : List A → B) (x : A) (rest : List ℕ) → i < n → Some (x, rest) ≡ reads bs → ((xs : List A) → g xs ≡ f (x ∷ xs)) →
+      made g (several reads (n - (i + 1)) rest) ≡ made f (several reads (n - i) bs)
+  made_more {B} f g x rest h e same =
+      made_same g (λ xs. f (x ∷ xs)) same (several reads (n - (i + 1)) rest) ∙ ap (λ (o : Read A). o then λ x bs. made (λ xs. f (x ∷ xs)) (several reads (n - (i + 1)) bs)) e ∙ sym (made_next f h)
+
+  pub made_cut : {B : Type 0} (f : List A → B) → i < n → None ≡ reads bs → made f (several reads (n - i) bs) ≡ None
+  made_cut {B} f h e = made_next f h ∙ sym (ap (λ (o : Read A). o then λ x bs. made (λ xs. f (x ∷ xs)) (several reads (n - (i + 1)) bs)) e)
+
+  pub made_none : {B : Type 0} (f : List A → B) → n ≤ i → made f (several reads (n - i) bs) ≡ Some (f [], bs)
+  unfolding several
+  made_none f h = let e : n - i ≡ 0 = omega arith in ap (λ (k : ℕ). made f (several reads k bs)) e
+
+  -- what each makes of a state: one more, and none left
+  module _ {S : Type 0} (step : S → A → S) (s : S) where
+    pub after_turn : (x : A) (rest : List ℕ) (t : S) → i < n → Some (x, rest) ≡ reads bs → t ≡ step s x → made (after step t) (several reads (n - (i + 1)) rest) ≡ made (after step s) (several reads (n - i) bs)
+    unfolding after
+    after_turn x rest t h e f = made_more (after step s) (after step t) x rest h e (λ xs. ap (λ (u : S). after step u xs) f)
+
+    pub after_end : n ≤ i → made (after step s) (several reads (n - i) bs) ≡ Some (s, bs)
+    unfolding after
+    after_end h = made_none (after step s) h
 
 -- where all can be read, as many as can be are all of them
 pub front_all : {A : Type 0} (reads : List ℕ → Read A) (n : ℕ) (bs : List ℕ) (xs : List A) (rest : List ℕ) → several reads n bs ≡ Some (xs, rest) → front reads n bs ≡ xs

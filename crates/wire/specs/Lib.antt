@@ -1,5 +1,5 @@
 pub mod Bytes
 pub mod Exact
 pub mod Fault
+pub mod Judged
 pub mod Several
-pub mod Times

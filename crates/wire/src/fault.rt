@@ -10,12 +10,12 @@ pub enum Fault {
     OutOfRange,
 }
 
-impl Fault {
-    // Its number in the table of refusals.
-    pub fn number(self) -> u8
-        ensures { result ≡ number_of self }
-    {
-        match self {
+// Its number in the table of refusals.
+impl From<Fault> for u8 {
+    ghost from_gives = { λ fault number. number ≡ number_of fault };
+
+    fn from(fault: Fault) -> u8 {
+        match fault {
             Fault::Malformed => 1,
             Fault::OutOfRange => 2,
         }

@@ -1,69 +1,28 @@
 // Numbers in bytes, high byte first: read from the front of one lent slice, written into another.
 #![tactic(auto)]
 
-ghost use Rattle.wire.specs.Bytes.{four, four_bytes, one, placed, placed_at, seen, seen_parts, some, two, two_bytes};
+ghost use Rattle.wire.specs.Bytes.{placed, placed_at, seen_parts, some};
 ghost use Rattle.wire.specs.Exact.{Numbers};
 ghost use Rattle.std.specs.Prelude.{◌≡◌, ◌++◌, length};
 
 mod fault;
+mod fixed;
+mod judged;
 
 pub use fault::Fault;
-
-// One byte, and the bytes behind it.
-pub fn read_u8(bytes: &[u8]) -> Option<(u8, &[u8])>
-    ensures { seen result ≡ one bytes.now }
-{
-    match bytes.split_first() {
-        Some((byte, rest)) => Some((*byte, rest)),
-        None => None,
-    }
-}
-
-// A number of two bytes, and the bytes behind it.
-pub fn read_u16(bytes: &[u8]) -> Option<(u16, &[u8])>
-    ensures { seen result ≡ two bytes.now }
-{
-    let (high, rest) = read_u8(bytes)?;
-    let (low, rest) = read_u8(rest)?;
-    Some((u16::from(high) * 256 + u16::from(low), rest))
-}
-
-// A number of four bytes, and the bytes behind it.
-pub fn read_u32(bytes: &[u8]) -> Option<(u32, &[u8])>
-    ensures { seen result ≡ four bytes.now }
-{
-    let (high, rest) = read_u16(bytes)?;
-    let (low, rest) = read_u16(rest)?;
-    Some((u32::from(high) * 65536 + u32::from(low), rest))
-}
+pub use fixed::Fixed;
+pub use judged::{Judged, accept_whole};
 
 // The first `count` bytes, and those behind them.
 pub fn read_slice(bytes: &[u8], count: usize) -> Option<(&[u8], &[u8])>
     ensures { seen_parts result ≡ some count bytes.now }
 {
-    if count > bytes.len() {
-        None
-    } else {
-        Some(bytes.split_at(count))
-    }
-}
-
-// A number as two bytes.
-pub fn u16_bytes(value: u16) -> [u8; 2]
-    ensures { result ≡ two_bytes value }
-{
-    value.to_be_bytes()
-}
-
-// A number as four bytes.
-pub fn u32_bytes(number: u32) -> [u8; 4]
-    ensures { result ≡ four_bytes number }
-{
-    number.to_be_bytes()
+    bytes.split_at_checked(count)
 }
 
 // Writes `bytes` over what stands in `out` from `at` on, and says where they end.
 // Where there is no room for all of them nothing is written.
+// Slice and place stay two parameters, and not a cursor: what is written first may stand behind what is written next.
 pub fn put(out: &mut [u8], at: usize, bytes: &[u8]) -> Option<usize>
     ensures end { result ≡ placed (length out.old) at (length bytes.now) }
     ensures bytes { out.new ≡ placed_at out.old at bytes.now }
@@ -77,6 +36,7 @@ pub fn put(out: &mut [u8], at: usize, bytes: &[u8]) -> Option<usize>
 }
 
 // Writes `first` and then `second`, as `put` would write the two joined.
+#[tactic(auto, using(crate::proofs::Over::placed_placed))]
 pub fn put_both(out: &mut [u8], at: usize, first: &[u8], second: &[u8]) -> Option<usize>
     ensures end { result ≡ placed (length out.old) at (length (first.now ++ second.now)) }
     ensures bytes { out.new ≡ placed_at out.old at (first.now ++ second.now) }
@@ -85,15 +45,12 @@ pub fn put_both(out: &mut [u8], at: usize, first: &[u8], second: &[u8]) -> Optio
     if end > out.len() {
         return None;
     }
-    let Some(next) = put(out, at, first) else {
-        unreachable()
-    };
+    let next = put(out, at, first).unwrap();
     put(out, next, second)
 }
 
 // Reading and writing numbers fit each other.
-pub fn numbers_are_exact() -> u8
+#[tactic(auto, using(crate::proofs::Exacts::numbers))]
+pub fn numbers_are_exact()
     ensures { Numbers }
-{
-    0
-}
+{}
