@@ -4,7 +4,8 @@ use Rattle.wire.specs.Bytes.{Read, ◌then◌, four, four_bytes, one, two, two_b
 use Rattle.entry.specs.Members.{list_bytes, list_of, listed, members_in}
 use Rattle.entry.specs.declared.entry.Entry.{Entry}
 use Rattle.entry.specs.declared.entry.Entry.TheVariants.{Call, Close}
-use Rattle.entry.specs.declared.read.Found.{Found}
+use Rattle.wire.specs.Judged.{judged}
+use Rattle.wire.specs.declared.judged.Judged.{Judged}
 use Rattle.store.specs.Ask.{key_of}
 use Rattle.store.specs.declared.ask.Ask.{Ask}
 use Rattle.store.specs.declared.ask.Ask.TheVariants.{Put, Take, Look}
@@ -36,11 +37,11 @@ raw_of bs =
     (cond (kind == 2) (list_of bs then λ ms bs. Some (Names ms, bs)) None)
 
 -- the entry that it is, and whether all of it is in range: a key up to 1,023, members that are a council
-abbrev pub found_in : Raw → Found
-found_in (Asks r) = record { entry = Call r; sound = nat_lt (key_of r.ask) 1024 }
-found_in (Names ms) = record { entry = Close (members_in ms).set; sound = (members_in ms).sound }
+abbrev pub found_in : Raw → Judged Entry
+found_in (Asks r) = judged (Call r) (nat_lt (key_of r.ask) 1024)
+found_in (Names ms) = judged (Close (members_in ms).value) (members_in ms).sound
 
-abbrev pub entry_of : List ℕ → Read Found
+abbrev pub entry_of : List ℕ → Read (Judged Entry)
 entry_of bs = raw_of bs then λ raw bs. Some (found_in raw, bs)
 
 -- the bytes of what is asked, of a request, of an entry

@@ -1,8 +1,8 @@
 -- The members of a council: a list in bytes, a set of bits in memory.
-use Rattle.std.specs.Prelude.{ℕ, zero, suc, ◌+◌, ◌/◌, ◌%◌, ◌^◌, Bool, cond, not, ◌&&◌, List, [], ◌∷◌, length, set, Some, None, ◌==◌, bit_or, nat_lt}
+use Rattle.std.specs.Prelude.{ℕ, zero, suc, ◌+◌, ◌/◌, ◌%◌, ◌^◌, cond, not, ◌&&◌, List, [], ◌∷◌, length, Some, None, ◌==◌, bit_or, nat_lt}
 use Rattle.wire.specs.Bytes.{Read, ◌then◌, one, some}
-use Rattle.entry.specs.declared.members.Listing.{Listing}
-use Rattle.entry.specs.declared.members.Members.{Members}
+use Rattle.wire.specs.Judged.{judged}
+use Rattle.wire.specs.declared.judged.Judged.{Judged}
 
 -- the members found so far, and what is left of the list
 pub record Walk : Type 0 where
@@ -26,26 +26,20 @@ walk zero i w = w
 walk (suc n) i w = walk n (i + 1) (visited i w)
 
 -- the members that a list names: sound if all stations visited in turn use it up, and there is one at least
-unfoldable pub members_in : List ℕ → Members
-members_in ms =
-    record { set = (walk 16 0 (walked 0 ms)).set; sound = length (walk 16 0 (walked 0 ms)).left == 0 && not (length ms == 0) }
+unfoldable pub members_in : List ℕ → Judged ℕ
+members_in ms = judged (walk 16 0 (walked 0 ms)).set (length (walk 16 0 (walked 0 ms)).left == 0 && not (length ms == 0))
 
 -- a list in bytes: how many, at most 16, and then each
 abbrev pub list_of : List ℕ → Read (List ℕ)
 list_of bs = one bs then λ n bs. cond (nat_lt 16 n) None (some n bs)
 
-abbrev pub members_of : List ℕ → Read Members
+abbrev pub members_of : List ℕ → Read (Judged ℕ)
 members_of bs = list_of bs then λ ms bs. Some (members_in ms, bs)
 
 -- the members of a set among n stations from i on, rising: bit 0 says whether i is one
 unfoldable pub listing : ℕ → ℕ → ℕ → List ℕ
 listing zero i s = []
 listing (suc n) i s = cond (s % 2 == 1) (i ∷ listing n (i + 1) (s / 2)) (listing n (i + 1) (s / 2))
-
--- a list in an array, with a station more if it is a member
-abbrev pub listed_next : Listing → ℕ → Bool → Listing
-listed_next l i member =
-    record { stations = cond member (set l.stations l.len i) l.stations; len = cond member (l.len + 1) l.len }
 
 -- a set as a list, and as bytes
 abbrev pub listed : ℕ → List ℕ

@@ -1,24 +1,10 @@
 // The members of a council, listed in bytes, as a set of bits.
-ghost use Rattle.std.specs.Prelude.{◌≡◌, ◌^◌, ◌<◌, ◌≤◌, not, ◌&&◌, length, take, ◌==◌, bit_or};
+ghost use Rattle.std.specs.Prelude.{◌≡◌, ◌<◌, ◌≤◌, not, ◌&&◌, length, ◌==◌};
 ghost use Rattle.wire.specs.Bytes.{seen};
-ghost use Rattle.entry.specs.Members.{listed, listed_next, members_in, members_of, visited, walked};
+ghost use Rattle.entry.specs.Members.{listed, members_in, members_of, visited, walked};
 
-use wire::{read_slice, read_u8};
-
-// A council's members; `sound` if they were listed rising, each a station, and at least one.
-#[derive(Clone, Copy)]
-pub struct Members {
-    pub set: u16,
-    pub sound: bool,
-}
-
-// One station more.
-fn insert(set: u16, station: u8) -> u16
-    requires { station < 16 }
-    ensures { result ≡ bit_or set (2 ^ station) }
-{
-    set | (1 << station)
-}
+use arrayvec::ArrayVec;
+use wire::{Fixed, Judged, read_slice};
 
 // One station visited: it is a member if it comes next in the list.
 fn visit(set: u16, list: &[u8], station: u8) -> (u16, &[u8])
@@ -26,7 +12,7 @@ fn visit(set: u16, list: &[u8], station: u8) -> (u16, &[u8])
     ensures { walked result.0 result.1.now ≡ visited station (walked set list.now) }
 {
     match list.split_first() {
-        Some((member, after)) if *member == station => (insert(set, station), after),
+        Some((member, after)) if *member == station => (set | (1 << station), after),
         _ => (set, list),
     }
 }
@@ -39,27 +25,26 @@ fn is_used_up(list: &[u8], rest: &[u8]) -> bool
 }
 
 // The members that a list names, found by visiting the stations in turn: the list is sound if that uses it up.
-fn gather(list: &[u8]) -> Members
+fn gather(list: &[u8]) -> Judged<u16>
     ensures { result ≡ members_in list.now }
 {
     let mut set = 0;
     let mut rest = list;
     for station in 0..16 {
-        let (found, after) = visit(set, rest, station);
-        set = found;
-        rest = after;
+        (set, rest) = visit(set, rest, station);
     }
-    Members {
-        set,
+    Judged {
+        value: set,
         sound: is_used_up(list, rest),
     }
 }
 
-// How many there are, at most 16, and then each.
-pub fn read_members(bytes: &[u8]) -> Option<(Members, &[u8])>
+// A council's members as a set: how many there are, at most 16, and then each.
+// They are sound if they are listed rising, each a station, and at least one.
+pub fn read_members(bytes: &[u8]) -> Option<(Judged<u16>, &[u8])>
     ensures { seen result ≡ members_of bytes.now }
 {
-    let (count, rest) = read_u8(bytes)?;
+    let (count, rest) = u8::read(bytes)?;
     if count > 16 {
         return None;
     }
@@ -67,40 +52,18 @@ pub fn read_members(bytes: &[u8]) -> Option<(Members, &[u8])>
     Some((gather(list), rest))
 }
 
-// The members of a set, rising: the first `len` of the stations.
-#[derive(Clone, Copy)]
-pub struct Listing {
-    pub stations: [u8; 16],
-    pub len: usize,
-}
-
-// One station visited: it is listed next if it is a member.
-fn list_next(listing: Listing, station: u8, member: bool) -> Listing
-    requires { listing.len < 16 }
-    ensures { result ≡ listed_next listing station member }
+// The members of a set, rising. By a loop: to collect an iterator takes an allocator.
+pub fn list_members(set: u16) -> ArrayVec<u8, 16>
+    ensures listed { result.items ≡ listed set }
+    ensures within { length result.items ≤ 16 }
 {
-    let mut next = listing;
-    if member {
-        next.stations[listing.len] = station;
-        next.len = listing.len + 1;
-    }
-    next
-}
-
-// A set as a list.
-pub fn list_members(set: u16) -> Listing
-    ensures within { result.len ≤ 16 }
-    ensures listed { take result.len result.stations ≡ listed set }
-    ensures count { result.len ≡ length (listed set) }
-{
-    let mut listing = Listing {
-        stations: [0; 16],
-        len: 0,
-    };
+    let mut list = ArrayVec::new();
     let mut left = set;
     for station in 0..16 {
-        listing = list_next(listing, station, left % 2 == 1);
+        if left % 2 == 1 {
+            list.push(station);
+        }
         left /= 2;
     }
-    listing
+    list
 }

@@ -6,15 +6,15 @@ ghost use Rattle.entry.specs.Entry.{call_bytes, close_bytes, entry_bytes};
 use crate::entry::Entry;
 use crate::members::list_members;
 use store::{Ask, Request};
-use wire::{put, put_both, u16_bytes, u32_bytes};
+use wire::{Fixed, put, put_both};
 
-// A put or a take.
+// A put or a take; `kind` is the byte that tells them apart.
 fn amount_bytes(client: u8, number: u32, kind: u8, key: u16, amount: u32) -> [u8; 13]
     ensures { result ≡ 1 ∷ client ∷ (four_bytes number ++ (kind ∷ (two_bytes key ++ four_bytes amount))) }
 {
-    let n = u32_bytes(number);
-    let k = u16_bytes(key);
-    let a = u32_bytes(amount);
+    let n = number.bytes();
+    let k = key.bytes();
+    let a = amount.bytes();
     [
         1, client, n[0], n[1], n[2], n[3], kind, k[0], k[1], a[0], a[1], a[2], a[3],
     ]
@@ -24,8 +24,8 @@ fn amount_bytes(client: u8, number: u32, kind: u8, key: u16, amount: u32) -> [u8
 fn look_bytes(client: u8, number: u32, key: u16) -> [u8; 9]
     ensures { result ≡ 1 ∷ client ∷ (four_bytes number ++ (3 ∷ two_bytes key)) }
 {
-    let n = u32_bytes(number);
-    let k = u16_bytes(key);
+    let n = number.bytes();
+    let k = key.bytes();
     [1, client, n[0], n[1], n[2], n[3], 3, k[0], k[1]]
 }
 
@@ -46,13 +46,8 @@ fn write_close(members: u16, out: &mut [u8], at: usize) -> Option<usize>
     ensures end { result ≡ placed (length out.old) at (length (close_bytes members)) }
     ensures bytes { out.new ≡ placed_at out.old at (close_bytes members) }
 {
-    let listing = list_members(members);
-    put_both(
-        out,
-        at,
-        &[2, listing.len as u8],
-        &listing.stations[0..listing.len],
-    )
+    let list = list_members(members);
+    put_both(out, at, &[2, list.len() as u8], list.as_slice())
 }
 
 // Writes an entry into `out` from `at` on, and says where it ends.
@@ -77,6 +72,6 @@ pub fn entry_size(entry: Entry) -> usize
             Ask::Put { .. } | Ask::Take { .. } => 13,
             Ask::Look { .. } => 9,
         },
-        Entry::Close { members } => 2 + list_members(members).len,
+        Entry::Close { members } => 2 + list_members(members).len(),
     }
 }

@@ -1,32 +1,23 @@
 -- Requests in bytes.
-use Rattle.std.proofs.Common.{◌≡◌, ℕ, ◌+◌, ◌*◌, ◌/◌, ◌%◌, ◌^◌, ◌<◌, true, false, cond, eqb, List, ◌∷◌, ◌++◌, Some, None, sym, refl, ap, ◌∙◌, subst, ⊎_elim, arith}
-use Rattle.wire.proofs.Exacts.{four_exact, none_some, one_exact, same_rest, same_value, split, two_exact}
+use Rattle.std.proofs.Common.{◌≡◌, ℕ, ◌^◌, ◌<◌, cond, eqb, List, ◌∷◌, ◌++◌, Some, None, sym, refl, ap, ◌∙◌, subst}
+use Rattle.wire.proofs.Exacts.{by_kind, four_exact, one_exact, same_rest, same_value, split, two_exact}
 use Rattle.wire.proofs.Runs.{took}
 use Rattle.wire.specs.Bytes.{Read, ◌then◌, four, four_bytes, one, two, two_bytes}
 use Rattle.wire.specs.Exact.{Bytes, Exact}
 use Rattle.entry.specs.Entry.{ask_bytes, ask_of, request_bytes, request_of}
 use Rattle.entry_laws.specs.Laws.{AskFits, RequestFits}
-use Rattle.std.proofs.lemmas.Bool.{cases_Bool, cond-false, cond-true, eqb-true}
+use Rattle.std.proofs.lemmas.Nat.{div-add-mod'}
 use Rattle.store.specs.declared.ask.Ask.{Ask}
 use Rattle.store.specs.declared.ask.Ask.TheVariants.{Look, Put, Take}
 use Rattle.store.specs.declared.request.Request.{Request}
 
-two_is : (n : ℕ) → n / 256 * 256 + n % 256 ≡ n
-two_is n = omega arith
-
-four_is : (n : ℕ) → (n / 65536 / 256 * 256 + n / 65536 % 256) * 65536 + (n % 65536 / 256 * 256 + n % 65536 % 256) ≡ n
-four_is n = omega arith
-
 ask_back : (a : Ask) (rest : List ℕ) → AskFits a → ask_of (ask_bytes a ++ rest) ≡ Some (a, rest)
-ask_back (Put k v) rest h = cc (two_is k, four_is v)
-ask_back (Take k v) rest h = cc (two_is k, four_is v)
-ask_back (Look k) rest h = cc (two_is k)
+ask_back (Put k v) rest h = simp div-add-mod'
+ask_back (Take k v) rest h = simp div-add-mod'
+ask_back (Look k) rest h = simp div-add-mod'
 
 request_back : (r : Request) (rest : List ℕ) → RequestFits r → request_of (request_bytes r ++ rest) ≡ Some (r, rest)
-request_back r rest h =
-    ap (λ (o : Read Ask). o then λ a bs. Some (record { client = r.client; number = (r.number / 65536 / 256 * 256 + r.number / 65536 % 256) * 65536 + (r.number % 65536 / 256 * 256 + r.number % 65536 % 256); ask = a }, bs))
-    (ask_back r.ask rest h.ask) ∙
-    ap (λ (n : ℕ). Some (record { client = r.client; number = n; ask = r.ask }, rest)) (four_is r.number)
+request_back r rest h = simp div-add-mod' (ap (λ (o : Read Ask). o then λ a bs. Some (record { client = r.client; number = r.number; ask = a }, bs)) (ask_back r.ask rest h.ask))
 
 -- a key and an amount behind the kind
 amount_only : (kind : ℕ) (make : ℕ → ℕ → Ask) → ((k v : ℕ) → ask_bytes (make k v) ≡ kind ∷ (two_bytes k ++ four_bytes v)) → ((k v : ℕ) → k < 65536 → v < 2 ^ 32 → AskFits (make k v)) →
@@ -45,22 +36,9 @@ kinds_only : (kind key : ℕ) (bs : List ℕ) (a : Ask) (rest : List ℕ) → By
     AskFits a × (kind ∷ (two_bytes key ++ bs) ≡ ask_bytes a ++ rest)
 kinds_only kind key bs a rest h low e =
     let Goal = λ (k : ℕ). AskFits a × (k ∷ (two_bytes key ++ bs) ≡ ask_bytes a ++ rest) in
-    ⊎_elim
-    (λ (b : eqb kind 1 ≡ true). subst Goal (sym (eqb-true kind 1 b)) (amount_only 1 Put (λ k v. refl) (λ k v i j. (i, j)) key bs a rest h low (sym (cond-true (eqb kind 1) _ _ b) ∙ e)))
-    (λ (b : eqb kind 1 ≡ false).
-    let f = sym (cond-false (eqb kind 1) _ _ b) ∙ e in
-    ⊎_elim
-    (λ (c : eqb kind 2 ≡ true). subst Goal (sym (eqb-true kind 2 c)) (amount_only 2 Take (λ k v. refl) (λ k v i j. (i, j)) key bs a rest h low (sym (cond-true (eqb kind 2) _ _ c) ∙ f)))
-    (λ (c : eqb kind 2 ≡ false).
-    let g = sym (cond-false (eqb kind 2) _ _ c) ∙ f in
-    ⊎_elim
-    (λ (d : eqb kind 3 ≡ true).
-    let i = sym (cond-true (eqb kind 3) _ _ d) ∙ g in
-    subst Goal (sym (eqb-true kind 3 d)) (subst (λ (x : Ask). AskFits x × (3 ∷ (two_bytes key ++ bs) ≡ ask_bytes x ++ rest)) (same_value i) (low, ap (λ (l : List ℕ). 3 ∷ (two_bytes key ++ l)) (same_rest i))))
-    (λ (d : eqb kind 3 ≡ false). absurd (none_some (sym (cond-false (eqb kind 3) _ _ d) ∙ g)))
-    (cases_Bool (eqb kind 3)))
-    (cases_Bool (eqb kind 2)))
-    (cases_Bool (eqb kind 1))
+    by_kind Goal kind 1 _ _ _ e (amount_only 1 Put (λ k v. refl) (λ k v i j. (i, j)) key bs a rest h low) (λ e.
+    by_kind Goal kind 2 _ _ _ e (amount_only 2 Take (λ k v. refl) (λ k v i j. (i, j)) key bs a rest h low) (λ e.
+    by_kind Goal kind 3 _ _ _ e (λ i. subst (λ (x : Ask). AskFits x × (3 ∷ (two_bytes key ++ bs) ≡ ask_bytes x ++ rest)) (same_value i) (low, ap (λ (l : List ℕ). 3 ∷ (two_bytes key ++ l)) (same_rest i))) (λ e. cc)))
 
 ask_only : (bs : List ℕ) (a : Ask) (rest : List ℕ) → Bytes bs → ask_of bs ≡ Some (a, rest) → AskFits a × (bs ≡ ask_bytes a ++ rest)
 ask_only bs a rest h e =

@@ -1,14 +1,13 @@
 -- Entries that are in range, in bytes.
 use Rattle.std.proofs.Common.{◌≡◌, ℕ, zero, suc, ◌+◌, ◌/◌, ◌%◌, ◌<◌, ◌≤◌, Bool, true, false, cond, not, ◌&&◌, eqb, ltb, List, [], ◌∷◌, ◌++◌, length, Some, None, sym, refl, ap, ◌∙◌, subst, ⊎_elim, arith}
-use Rattle.wire.proofs.Exacts.{none_some, same_rest, same_value, split}
+use Rattle.wire.proofs.Exacts.{if_so, same_rest, same_value, split}
 use Rattle.wire.specs.Bytes.{Read, ◌then◌}
 use Rattle.wire.specs.Exact.{Bytes}
 use Rattle.entry.specs.Entry.{Asks, Names, Raw, entry_bytes, entry_of, found_in, raw_bytes, raw_of}
 use Rattle.entry.specs.Members.{Walk, listed, listing, members_in, walk, walked}
 use Rattle.entry.specs.declared.entry.Entry.{Entry}
 use Rattle.entry.specs.declared.entry.Entry.TheVariants.{Call, Close}
-use Rattle.entry.specs.declared.members.Members.{Members}
-use Rattle.entry.specs.declared.read.Found.{Found}
+use Rattle.wire.specs.declared.judged.Judged.{Judged}
 use Rattle.entry_laws.proofs.Sets.{refound, walks}
 use Rattle.entry_laws.proofs.Shapes.{forms}
 use Rattle.entry_laws.specs.Laws.{Entries, EntryFits, RawFits, accepted}
@@ -18,7 +17,7 @@ use Rattle.std.proofs.lemmas.Bool.{and_parts, cases_Bool, cond-false, cond-true,
 use Rattle.store.specs.Ask.{key_of}
 
 -- a listing of n stations from i on has at most n members, each a byte
-listing_few : (n i s : ℕ) → length (listing n i s) ≤ n
+pub listing_few : (n i s : ℕ) → length (listing n i s) ≤ n
 unfolding listing
 listing_few zero i s = omega arith
 listing_few (suc n) i s =
@@ -29,7 +28,7 @@ listing_few (suc n) i s =
     (λ (b : eqb (s % 2) 1 ≡ false). subst Goal (sym (cond-false (eqb (s % 2) 1) (i ∷ listing n (i + 1) (s / 2)) (listing n (i + 1) (s / 2)) b)) (omega arith))
     (cases_Bool (eqb (s % 2) 1))
 
-listing_bytes : (n i s : ℕ) → i + n ≤ 256 → Bytes (listing n i s)
+pub listing_bytes : (n i s : ℕ) → i + n ≤ 256 → Bytes (listing n i s)
 unfolding listing
 listing_bytes zero i s h = tt
 listing_bytes (suc n) i s h =
@@ -50,7 +49,7 @@ listing_none zero i = refl
 listing_none (suc n) i = listing_none n (i + 1)
 
 -- a council's set, listed, is that council
-members_back : (s : ℕ) → 0 < s → s < 65536 → members_in (listed s) ≡ record { set = s; sound = true }
+pub members_back : (s : ℕ) → 0 < s → s < 65536 → members_in (listed s) ≡ record { value = s; sound = true }
 unfolding members_in
 members_back s some small =
     let w = refound 16 0 0 s (pow_pos 0) small in
@@ -63,10 +62,10 @@ members_back s some small =
     let used = ap (λ (x : Walk). eqb (length x.left) 0) w in
     let sound-is : (eqb (length (walk 16 0 (walked 0 (listed s))).left) 0 && not (eqb (length (listed s)) 0)) ≡ true =
     ap (λ (b : Bool). b && not (eqb (length (listed s)) 0)) used ∙ ap (λ (b : Bool). true && not b) long in
-    λ i. record { set = set_is i; sound = sound-is i }
+    λ i. record { value = set_is i; sound = sound-is i }
 
 -- a list that is a council is the listing of its set
-members_only : (ms : List ℕ) → (members_in ms).sound ≡ true → ((0 < (members_in ms).set) × ((members_in ms).set < 65536)) × (listed (members_in ms).set ≡ ms)
+pub members_only : (ms : List ℕ) → (members_in ms).sound ≡ true → ((0 < (members_in ms).value) × ((members_in ms).value < 65536)) × (listed (members_in ms).value ≡ ms)
 unfolding members_in
 members_only ms h =
     let x = walk 16 0 (walked 0 ms) in
@@ -80,7 +79,7 @@ members_only ms h =
     ((subst (λ (k : ℕ). 0 < k) (sym is) (omega arith), subst (λ (k : ℕ). k < 65536) (sym is) small), ap (listing 16 0) is ∙ sym all)
 
 -- an entry of the right form that is in range is an entry, and its bytes are those that are written of it
-raw_entry : (w : Raw) → RawFits w → (found_in w).sound ≡ true → EntryFits (found_in w).entry × (raw_bytes w ≡ entry_bytes (found_in w).entry)
+pub raw_entry : (w : Raw) → RawFits w → (found_in w).sound ≡ true → EntryFits (found_in w).value × (raw_bytes w ≡ entry_bytes (found_in w).value)
 raw_entry (Asks r) h b = ((h, ltb-true (key_of r.ask) 1024 b), refl)
 raw_entry (Names ms) h b = let m = members_only ms b in (m.0, ap (λ (l : List ℕ). 2 ∷ (length l ∷ l)) (sym m.1))
 
@@ -89,24 +88,20 @@ entry_only bs e rest h a =
     let s = split (entry_of bs) _ (e, rest) a in
     let t = split (raw_of bs) _ (s.value, s.rest) s.first in
     let o = forms.only bs t.value t.rest h t.first in
-    ⊎_elim
-    (λ (b : s.value.sound ≡ true).
-    let i = sym (cond-true s.value.sound (Some (s.value.entry, s.rest)) None b) ∙ s.second in
+    let d = if_so s.value.sound (s.value.value, s.rest) (e, rest) s.second in
     let f = same_value t.second in
-    let w = raw_entry t.value o.0 (ap (λ (x : Found). x.sound) f ∙ b) in
-    let is = ap (λ (x : Found). x.entry) f ∙ same_value i in
-    let behind = same_rest t.second ∙ same_rest i in
-    (subst EntryFits is w.0, o.1 ∙ ap (λ (l : List ℕ). l ++ t.rest) (w.1 ∙ ap entry_bytes is) ∙ ap (λ (l : List ℕ). entry_bytes e ++ l) behind))
-    (λ (b : s.value.sound ≡ false). absurd (none_some (sym (cond-false s.value.sound (Some (s.value.entry, s.rest)) None b) ∙ s.second)))
-    (cases_Bool s.value.sound)
+    let w = raw_entry t.value o.0 (ap (λ (x : Judged Entry). x.sound) f ∙ d.0) in
+    let is = ap (λ (x : Judged Entry). x.value) f ∙ ap (λ (p : Entry × List ℕ). p.0) d.1 in
+    let behind = same_rest t.second ∙ ap (λ (p : Entry × List ℕ). p.1) d.1 in
+    (subst EntryFits is w.0, o.1 ∙ ap (λ (l : List ℕ). l ++ t.rest) (w.1 ∙ ap entry_bytes is) ∙ ap (λ (l : List ℕ). entry_bytes e ++ l) behind)
 
 entry_back : (e : Entry) (rest : List ℕ) → EntryFits e → accepted (entry_bytes e ++ rest) ≡ Some (e, rest)
 entry_back (Call r) rest h =
-    ap (λ (o : Read Raw). (o then λ w bs. Some (found_in w, bs)) then λ f bs. cond f.sound (Some (f.entry, bs)) None) (forms.back (Asks r) rest h.0) ∙
+    ap (λ (o : Read Raw). (o then λ w bs. Some (found_in w, bs)) then λ f bs. cond f.sound (Some (f.value, bs)) None) (forms.back (Asks r) rest h.0) ∙
     cond-true (ltb (key_of r.ask) 1024) (Some (Call r, rest)) None (lt-ltb (key_of r.ask) 1024 h.1)
 entry_back (Close s) rest h =
-    ap (λ (o : Read Raw). (o then λ w bs. Some (found_in w, bs)) then λ f bs. cond f.sound (Some (f.entry, bs)) None) (forms.back (Names (listed s)) rest (listing_few 16 0 s, listing_bytes 16 0 s (omega arith))) ∙
-    ap (λ (m : Members). cond m.sound (Some (Close m.set, rest)) None) (members_back s (let some = h.0 in omega arith) h.1)
+    ap (λ (o : Read Raw). (o then λ w bs. Some (found_in w, bs)) then λ f bs. cond f.sound (Some (f.value, bs)) None) (forms.back (Names (listed s)) rest (listing_few 16 0 s, listing_bytes 16 0 s (omega arith))) ∙
+    ap (λ (m : Judged ℕ). cond m.sound (Some (Close m.value, rest)) None) (members_back s (let some = h.0 in omega arith) h.1)
 
 pub entries : Entries
 entries = record { back = entry_back; only = entry_only }

@@ -1,6 +1,6 @@
 -- Lists of members, and entries in range or not, in bytes.
-use Rattle.std.proofs.Common.{◌≡◌, ℕ, ◌≤◌, true, false, eqb, ltb, List, [], ◌∷◌, ◌++◌, length, Some, None, sym, refl, ap, ◌∙◌, subst, ⊎_elim, arith}
-use Rattle.wire.proofs.Exacts.{none_some, one_exact, same_rest, same_value, some_exact, split}
+use Rattle.std.proofs.Common.{◌≡◌, ℕ, ◌≤◌, ltb, List, [], ◌∷◌, ◌++◌, length, Some, None, sym, refl, ap, ◌∙◌, subst, arith}
+use Rattle.wire.proofs.Exacts.{by_kind, one_exact, same_rest, same_value, some_exact, split, within}
 use Rattle.wire.proofs.Runs.{took}
 use Rattle.wire.specs.Bytes.{Read, ◌then◌, one, some}
 use Rattle.wire.specs.Exact.{Bytes, Exact}
@@ -8,7 +8,7 @@ use Rattle.entry.specs.Entry.{Asks, Names, Raw, raw_bytes, raw_of, request_bytes
 use Rattle.entry.specs.Members.{list_bytes, list_of}
 use Rattle.entry_laws.proofs.Asking.{request_exact}
 use Rattle.entry_laws.specs.Laws.{Forms, RawFits, RequestFits}
-use Rattle.std.proofs.lemmas.Bool.{cases_Bool, cond-false, cond-true, eqb-true, le-ltb, ltb-false}
+use Rattle.std.proofs.lemmas.Bool.{cond-false, le-ltb}
 use Rattle.store.specs.declared.request.Request.{Request}
 
 bytes_front : (ys rest : List ℕ) → Bytes (ys ++ rest) → Bytes ys
@@ -23,14 +23,10 @@ list_only bs ms rest h e =
     let s = split (one bs) _ (ms, rest) e in
     let t = took one_exact bs s.value s.rest h s.first in
     let n = s.value in
-    ⊎_elim
-    (λ (b : ltb 16 n ≡ true). absurd (none_some (sym (cond-true (ltb 16 n) None (some n s.rest) b) ∙ s.second)))
-    (λ (b : ltb 16 n ≡ false).
-    let o = (some_exact n).only s.rest ms rest t.behind (sym (cond-false (ltb 16 n) None (some n s.rest) b) ∙ s.second) in
-    let few = ltb-false 16 n b in
+    within (((length ms ≤ 16) × Bytes ms) × (bs ≡ list_bytes ms ++ rest)) 16 n (some n s.rest) (ms, rest) s.second (λ few e.
+    let o = (some_exact n).only s.rest ms rest t.behind e in
     let long = o.0 in
     ((omega arith, bytes_front ms rest (subst Bytes o.1 t.behind)), t.is ∙ ap (λ (l : List ℕ). n ∷ l) o.1 ∙ ap (λ (k : ℕ). k ∷ (ms ++ rest)) (sym long)))
-    (cases_Bool (ltb 16 n))
 
 pub list_exact : Exact list_of list_bytes (λ ms. (length ms ≤ 16) × Bytes ms)
 list_exact = record { back = list_back; only = list_only }
@@ -54,15 +50,8 @@ raw_only bs w rest h e =
     let t = took one_exact bs s.value s.rest h s.first in
     let Goal = λ (k : ℕ). RawFits w × (k ∷ s.rest ≡ raw_bytes w ++ rest) in
     let g : Goal s.value =
-    ⊎_elim
-    (λ (b : eqb s.value 1 ≡ true). subst Goal (sym (eqb-true s.value 1 b)) (kind_only 1 Asks request_of request_bytes RequestFits request_exact (λ r. refl) (λ r f. f) s.rest w rest t.behind (sym (cond-true (eqb s.value 1) _ _ b) ∙ s.second)))
-    (λ (b : eqb s.value 1 ≡ false).
-    let f = sym (cond-false (eqb s.value 1) _ _ b) ∙ s.second in
-    ⊎_elim
-    (λ (c : eqb s.value 2 ≡ true). subst Goal (sym (eqb-true s.value 2 c)) (kind_only 2 Names list_of list_bytes (λ ms. (length ms ≤ 16) × Bytes ms) list_exact (λ ms. refl) (λ ms f. f) s.rest w rest t.behind (sym (cond-true (eqb s.value 2) _ _ c) ∙ f)))
-    (λ (c : eqb s.value 2 ≡ false). absurd (none_some (sym (cond-false (eqb s.value 2) _ _ c) ∙ f)))
-    (cases_Bool (eqb s.value 2)))
-    (cases_Bool (eqb s.value 1)) in
+    by_kind Goal s.value 1 _ _ _ s.second (kind_only 1 Asks request_of request_bytes RequestFits request_exact (λ r. refl) (λ r f. f) s.rest w rest t.behind) (λ e.
+    by_kind Goal s.value 2 _ _ _ e (kind_only 2 Names list_of list_bytes (λ ms. (length ms ≤ 16) × Bytes ms) list_exact (λ ms. refl) (λ ms f. f) s.rest w rest t.behind) (λ e. cc)) in
     (g.0, t.is ∙ g.1)
 
 pub forms : Forms

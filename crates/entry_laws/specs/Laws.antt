@@ -38,7 +38,7 @@ EntryFits (Close s) = (0 < s) × (s < 65536)
 
 -- what is read and is in range
 abbrev pub accepted : List ℕ → Read Entry
-accepted bs = entry_of bs then λ f bs. cond f.sound (Some (f.entry, bs)) None
+accepted bs = entry_of bs then λ f bs. cond f.sound (Some (f.value, bs)) None
 
 -- Every entry is read back as it was written, and is accepted in one form only: the bytes that are written of it.
 abbrev pub Entries : Type 0

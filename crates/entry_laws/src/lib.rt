@@ -4,20 +4,17 @@
 
 ghost use Rattle.entry_laws.specs.Laws.{Councils, Entries, Forms};
 
-pub fn forms_are_exact() -> u8
+#[tactic(auto, using(crate::proofs::Shapes::forms))]
+pub fn forms_are_exact()
     ensures { Forms }
-{
-    0
-}
+{}
 
-pub fn entries_are_exact() -> u8
+#[tactic(auto, using(crate::proofs::Entries::entries))]
+pub fn entries_are_exact()
     ensures { Entries }
-{
-    0
-}
+{}
 
-pub fn councils_are_rising_stations() -> u8
+#[tactic(auto, using(crate::proofs::Rising::councils))]
+pub fn councils_are_rising_stations()
     ensures { Councils }
-{
-    0
-}
+{}

@@ -4,7 +4,7 @@ use Rattle.entry.specs.Members.{members_in, walked}
 use Rattle.std.proofs.Common.{sym, ◌∙◌, rules}
 
 pub loop-station-preserved : goal.loop-station-preserved
-loop-station-preserved c = walk_more c.loop-station.station _ _ c.loop-station-test.true c.visit-found.ensures ∙ c.loop-station.invariant
+loop-station-preserved c = walk_more c.loop-station.station _ _ c.loop-station-test.true c.visit.ensures ∙ c.loop-station.invariant
 
 pub returns : goal.returns
 unfolding members_in
