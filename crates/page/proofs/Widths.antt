@@ -3,7 +3,7 @@ use Rattle.std.proofs.Common.{◌≡◌, ℕ, zero, suc, ◌+◌, ◌*◌, ◌<�
 use Rattle.wire.specs.Bytes.{Read, ◌then◌, four, one, some, two}
 use Rattle.wire.specs.Several.{rest_of, several}
 use Rattle.page.specs.Page.{raw_page_of}
-use Rattle.page.specs.Rows.{client_of, count_of, rows_of, shelf_of}
+use Rattle.page.specs.Rows.{client_of, count_of, rows_of, shelf_of, skip_of}
 use Rattle.page.specs.declared.rows.Client.{Client}
 use Rattle.page.specs.declared.rows.Shelf.{Shelf}
 use Rattle.std.proofs.lemmas.List.{drop-drop, length-drop}
@@ -43,11 +43,11 @@ both_read : {A B : Type 0} (w v : ℕ) (k : A → List ℕ → Read B) → ((a :
 both_read w v k h bs None e =
     ⊎_elim
     (λ (i : length bs < w). sym (behind_short (w + v) bs (omega arith)))
-    (λ (i : w ≤ length bs). let z : ◌≡◌ {A = ℕ} 0 1 = cc (behind_long w bs i) in absurd (omega arith))
+    (λ (i : w ≤ length bs). cc (behind_long w bs i))
     (cases_lt (length bs) w)
 both_read w v k h bs (Some p) e =
     ⊎_elim
-    (λ (i : length bs < w). let z : ◌≡◌ {A = ℕ} 0 1 = cc (behind_short w bs i) in absurd (omega arith))
+    (λ (i : length bs < w). cc (behind_short w bs i))
     (λ (i : w ≤ length bs). let d : p.1 ≡ drop w bs = cc (behind_long w bs i) in h p.0 p.1 ∙ ap (behind v) d ∙ behind_both w v bs i)
     (cases_lt (length bs) w)
 
@@ -87,8 +87,8 @@ rest_made (Some q) f = refl
 same_rests : {A B C D : Type 0} (o : Read A) (p : Read B) (k : A → List ℕ → Read C) (l : B → List ℕ → Read D) → rest_of o ≡ rest_of p → ((a : A) (b : B) (bs : List ℕ) → rest_of (k a bs) ≡ rest_of (l b bs)) →
     rest_of (o then k) ≡ rest_of (p then l)
 same_rests None None k l e h = refl
-same_rests None (Some q) k l e h = let z : ◌≡◌ {A = ℕ} 0 1 = cc in absurd (omega arith)
-same_rests (Some q) None k l e h = let z : ◌≡◌ {A = ℕ} 0 1 = cc in absurd (omega arith)
+same_rests None (Some q) k l e h = cc
+same_rests (Some q) None k l e h = cc
 same_rests (Some q) (Some r) k l e h = let d : q.1 ≡ r.1 = cc in ap (λ (bs : List ℕ). rest_of (k q.0 bs)) d ∙ h q.0 r.0 r.1
 
 same_next : {A B C : Type 0} (o : Read A) (k : A → List ℕ → Read B) (l : A → List ℕ → Read C) → ((a : A) (bs : List ℕ) → rest_of (k a bs) ≡ rest_of (l a bs)) → rest_of (o then k) ≡ rest_of (o then l)
@@ -96,9 +96,6 @@ same_next None k l h = refl
 same_next (Some q) k l h = h q.0 q.1
 
 -- a count and the bytes of so many rows, skipped
-abbrev pub skip_of : ℕ → ℕ → List ℕ → Read (List ℕ)
-skip_of limit w bs = count_of limit bs then λ n bs. some (w * n) bs
-
 some_rest : (b : Bool) (p : List ℕ × List ℕ) → rest_of (cond b None (Some p)) ≡ cond b None (Some p.1)
 some_rest true p = refl
 some_rest false p = refl

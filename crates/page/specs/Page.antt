@@ -1,14 +1,15 @@
 -- Pages: a store as bytes.
-use Rattle.std.specs.Prelude.{ℕ, ◌+◌, ◌*◌, cond, ◌&&◌, List, ◌++◌, length, replicate, Some, None, Option, Ok, Err, Result, is_ok, ◌==◌}
+use Rattle.std.specs.Prelude.{ℕ, ◌+◌, ◌*◌, cond, ◌&&◌, List, ◌++◌, length, Some, None, Option, Err, Result, is_ok}
 use Rattle.wire.specs.Bytes.{Read, ◌then◌, four, four_bytes, placed, placed_at}
+use Rattle.wire.specs.Judged.{ended, judged}
 use Rattle.wire.specs.Several.{after, made}
-use Rattle.page.specs.Rows.{client_bytes, client_of, clients_in, occupied, rising_clients, rising_shelves, rows_bytes, rows_of, shelf_bytes, shelf_of, shelves_in, with_client, with_shelf}
 use Rattle.wire.specs.declared.fault.Fault.{Fault}
-use Rattle.wire.specs.declared.fault.Fault.TheVariants.{Malformed, OutOfRange}
-use Rattle.page.specs.declared.judge.Judged.{Judged}
+use Rattle.wire.specs.declared.fault.Fault.TheVariants.{Malformed}
+use Rattle.wire.specs.declared.judged.Judged.{Judged}
+use Rattle.page.specs.Rows.{client_bytes, client_of, clients_in, occupied, rising_clients, rising_shelves, rows_bytes, rows_of, shelf_bytes, shelf_of, shelves_in, with_client, with_shelf}
 use Rattle.page.specs.declared.rows.Client.{Client}
 use Rattle.page.specs.declared.rows.Shelf.{Shelf}
-use Rattle.store.specs.Store.{Store, tables, whole}
+use Rattle.store.specs.Store.{Store, cleared, whole}
 
 -- a page as it stands in bytes, in range or not: how many entries stand before it, and the rows
 pub record RawPage : Type 0 where
@@ -25,28 +26,20 @@ abbrev pub raw_page_bytes : RawPage → List ℕ
 raw_page_bytes p = four_bytes p.before ++ (rows_bytes shelf_bytes p.shelves ++ rows_bytes client_bytes p.clients)
 
 -- whether all of it is in range: keys and clients that rise, keys up to 1,023, and no number or last of 0
-abbrev pub judged_in : RawPage → Judged
-judged_in p = record { before = p.before; sound = rising_shelves 0 p.shelves && rising_clients 0 p.clients }
+abbrev pub judged_in : RawPage → Judged ℕ
+judged_in p = judged p.before (rising_shelves 0 p.shelves && rising_clients 0 p.clients)
 
-abbrev pub page_of : List ℕ → Read Judged
+abbrev pub page_of : List ℕ → Read (Judged ℕ)
 page_of bs = made judged_in (raw_page_of bs)
 
 -- how many entries stand before the page that some bytes are, or why they are refused: slices that are no store,
 -- no page at the front, or bytes behind it; and then, something out of range
-abbrev pub outcome : Store → Read Judged → Result ℕ Fault
-outcome s None = Err Malformed
-outcome s (Some q) =
-    cond (whole s && length q.1 == 0) (cond q.0.sound (Ok q.0.before) (Err OutOfRange)) (Err Malformed)
+abbrev pub outcome : Store → Read (Judged ℕ) → Result ℕ Fault
+outcome s read = cond (whole s) (ended read) (Err Malformed)
 
 -- the rows of a page put into the tables of a store
 abbrev pub with_rows : Store → RawPage → Store
-with_rows s p =
-    tables (after with_shelf s.shelves p.shelves)
-    (after with_client (s.lasts, s.words) p.clients).0 (after with_client (s.lasts, s.words) p.clients).1
-
--- the same tables, each cell 0
-abbrev pub cleared : Store → Store
-cleared s = tables (replicate (length s.shelves) 0) (replicate (length s.lasts) 0) (replicate (length s.words) 0)
+with_rows s p = after with_client (after with_shelf s p.shelves) p.clients
 
 -- the store that a page holds: its rows, and 0 wherever it has none
 abbrev pub held : Store → Read RawPage → Store

@@ -6,5 +6,5 @@ mod judge;
 mod rows;
 
 pub use fill::{load_page, read_page};
-pub use judge::{Judged, judge_page};
-pub use rows::{Client, Shelf};
+pub use judge::judge_page;
+pub use rows::{Client, Row, Shelf};

@@ -1,39 +1,34 @@
 -- Pages that are in range, in bytes.
-use Rattle.std.proofs.Common.{◌≡◌, ℕ, ◌+◌, true, false, cond, List, [], ◌∷◌, ◌++◌, length, get_or, set, replicate, Some, None, sym, refl, ap, ◌∙◌, subst, ⊎_elim, zero-add, arith}
-use Rattle.wire.proofs.Exacts.{none_some, same_rest, same_value, split}
+use Rattle.std.proofs.Common.{◌≡◌, ℕ, ◌+◌, true, cond, List, [], ◌∷◌, ◌++◌, length, get_or, set, replicate, Some, None, sym, refl, ap, ◌∙◌, subst, zero-add, arith}
+use Rattle.wire.proofs.Exacts.{if_so, split}
 use Rattle.wire.specs.Bytes.{Read, ◌then◌}
 use Rattle.wire.specs.Exact.{Bytes}
 use Rattle.wire.specs.Several.{after}
-use Rattle.page.specs.Page.{RawPage, cleared, judged_in, page_bytes, page_in, raw_page_bytes, raw_page_of, with_rows}
-use Rattle.page.specs.Rows.{client_row, clients_in, rising_shelves, shelf_row, shelves_in, with_client, with_shelf}
+use Rattle.page.specs.Page.{RawPage, judged_in, page_bytes, page_in, raw_page_bytes, raw_page_of, with_rows}
+use Rattle.page.specs.Rows.{client, client_row, clients_in, key, rising_shelves, shelf_row, shelves_in, with_client, with_shelf}
 use Rattle.page.specs.declared.rows.Client.{Client}
 use Rattle.page.specs.declared.rows.Shelf.{Shelf}
 use Rattle.page_laws.proofs.Forms.{page_forms}
-use Rattle.page_laws.proofs.Stores.{Idle, Small, all_zero, cleared_bare, idle_set, idle_zero, lengths, small_at, wholly, zeros}
+use Rattle.page_laws.proofs.Stores.{Idle, Small, all_zero, cleared_bare, idle_set, idle_zero, small_at, wholly, zeros}
 use Rattle.page_laws.proofs.Tables.{Rises, agree_other, agree_own, all_listed, all_put, few_listed, found_again, length_put, listed_rises, put_in, relisted, restored, rises_parts}
 use Rattle.page_laws.specs.Laws.{ClientFits, Paged, PagedFits, Pages, RawPageFits, ShelfFits, StoreFits, accepted_page}
 use Rattle.std.proofs.ByRecursion.{All-weaker}
 use Rattle.std.proofs.lemmas.List.{length-replicate, length-set}
-use Rattle.std.proofs.lemmas.Bool.{and_from, and_parts, cases_Bool, cond-false, cond-true}
+use Rattle.std.proofs.lemmas.Bool.{and_from, and_parts, cond-true}
 use Rattle.std.specs.List.{AllByRecursion}
-use Rattle.store.specs.Store.{Store, bare, tables}
+use Rattle.store.proofs.Whole.{lengths}
+use Rattle.store.specs.Store.{Store, bare, cleared, tables}
 
 abbrev paged : ℕ → Store → Paged
 paged before s = record { before = before; store = s }
 
 -- a page that was read, if it is in range
-abbrev judged : RawPage → List ℕ → Read Paged
+abbrev pub judged : RawPage → List ℕ → Read Paged
 judged p bs = cond (judged_in p).sound (Some (paged p.before (with_rows bare p), bs)) None
 
--- the places and values of the two kinds of rows
-abbrev key : Shelf → ℕ
-key row = row.key
-
+-- what rows of the two kinds keep
 abbrev number : Shelf → ℕ
 number row = row.number
-
-abbrev client : Client → ℕ
-client row = row.client
 
 abbrev last : Client → ℕ
 last row = row.last
@@ -51,18 +46,23 @@ all_of : {A : Type 0} (P : A → Type 0) → ((a : A) → P a) → (xs : List A)
 all_of P h [] = tt
 all_of P h (x ∷ xs) = (h x, all_of P h xs)
 
--- the two tables of the clients are filled each by itself
-both_put : (lasts words : List ℕ) (rows : List Client) → after with_client (lasts, words) rows ≡ (after (put_in client last) lasts rows, after (put_in client word) words rows)
+-- each table is filled by itself
+shelves_put : (s : Store) (rows : List Shelf) → after with_shelf s rows ≡ tables (after (put_in key number) s.shelves rows) s.lasts s.words
 unfolding after
-both_put lasts words [] = refl
-both_put lasts words (row ∷ rows) = both_put (set lasts row.client row.last) (set words row.client row.word) rows
+shelves_put s [] = refl
+shelves_put s (row ∷ rows) = shelves_put (with_shelf s row) rows
+
+clients_put : (s : Store) (rows : List Client) → after with_client s rows ≡ tables s.shelves (after (put_in client last) s.lasts rows) (after (put_in client word) s.words rows)
+unfolding after
+clients_put s [] = refl
+clients_put s (row ∷ rows) = clients_put (with_client s row) rows
 
 -- what rows make of a store, table by table
 abbrev put : Store → RawPage → Store
 put s p = tables (after (put_in key number) s.shelves p.shelves) (after (put_in client last) s.lasts p.clients) (after (put_in client word) s.words p.clients)
 
 rows_put : (s : Store) (p : RawPage) → with_rows s p ≡ put s p
-rows_put s p = ap (λ (q : List ℕ × List ℕ). tables (after with_shelf s.shelves p.shelves) q.0 q.1) (both_put s.lasts s.words p.clients)
+rows_put s p = clients_put (after with_shelf s p.shelves) p.clients ∙ ap (λ (t : Store). tables t.shelves (after (put_in client last) t.lasts p.clients) (after (put_in client word) t.words p.clients)) (shelves_put s p.shelves)
 
 -- The page of a store that fits: it fits, it is sound, and its rows make the store again.
 pub page_fits : (v : Paged) → PagedFits v → RawPageFits (page_in v.before v.store)
@@ -83,7 +83,7 @@ page_fits v h =
       clients = all_listed 256 client last (client_row s.words) ClientFits Small (λ i x low small. record { client = low; last = small; word = small_at s.words i f.words }) 0 s.lasts (omega arith) f.lasts;
     }
 
-page_sound : (before : ℕ) (s : Store) → StoreFits s → (judged_in (page_in before s)).sound ≡ true
+pub page_sound : (before : ℕ) (s : Store) → StoreFits s → (judged_in (page_in before s)).sound ≡ true
 page_sound before s f =
     let l = lengths s f.tables in
     let a = l.shelves in
@@ -94,13 +94,13 @@ page_sound before s f =
 same_tables : (a b c x y z : List ℕ) → a ≡ x → b ≡ y → c ≡ z → tables a b c ≡ tables x y z
 same_tables a b c x y z e f g = ap (λ (l : List ℕ). tables l b c) e ∙ ap (λ (l : List ℕ). tables x l c) f ∙ ap (λ (l : List ℕ). tables x y l) g
 
-store_again : (before : ℕ) (s : Store) → StoreFits s → with_rows (cleared s) (page_in before s) ≡ s
+pub store_again : (before : ℕ) (s : Store) → StoreFits s → with_rows bare (page_in before s) ≡ s
 store_again before s f =
     let l = lengths s f.tables in
     let long : length s.words ≡ length s.lasts = l.words ∙ sym l.lasts in
     let make = client_row s.words in
     let rows = clients_in s.lasts s.words in
-    rows_put (cleared s) (page_in before s) ∙
+    ap (λ (t : Store). with_rows t (page_in before s)) (sym (cleared_bare s f.tables)) ∙ rows_put (cleared s) (page_in before s) ∙
     same_tables _ _ _ s.shelves s.lasts s.words
     (restored key number shelf_row (λ i x. refl) 0 s.shelves s.shelves [] refl (agree_own key number shelf_row (λ i x. refl) 0 s.shelves))
     (restored client last make (λ i x. refl) 0 s.lasts s.lasts [] refl (agree_own client last make (λ i x. refl) 0 s.lasts))
@@ -114,7 +114,7 @@ page_back v rest h =
     let p = page_in v.before v.store in
     ap (λ (o : Read RawPage). o then judged) (page_forms.back p rest (page_fits v h)) ∙
     cond-true (judged_in p).sound _ None (page_sound v.before v.store h.store) ∙
-    ap (λ (t : Store). Some (paged v.before t, rest)) (ap (λ (t : Store). with_rows t p) (sym (cleared_bare v.store h.store.tables)) ∙ store_again v.before v.store h.store)
+    ap (λ (t : Store). Some (paged v.before t, rest)) (store_again v.before v.store h.store)
 
 -- The store of a page that fits and is sound: it fits, and its page is that page.
 idle_put : (n next : ℕ) (lasts words : List ℕ) (rows : List Client) → length lasts ≡ length words → Rises n client last next rows → Idle lasts words → Idle (after (put_in client last) lasts rows) (after (put_in client word) words rows)
@@ -150,7 +150,7 @@ module _ (n m : ℕ) (p : RawPage) (shelves-rise : Rises n key number 0 p.shelve
       (All-weaker (λ (row : Client). get_or words row.client 0 ≡ row.word) (λ row. client_row words row.client row.last ≡ row) (λ row e. ap (λ (w : ℕ). row_of row.client row.last w) e) p.clients found) in
       ap (λ (rows : List Shelf). raw_of p.before rows (clients_in (after (put_in client last) (replicate m 0) p.clients) words)) a ∙ ap (λ (rows : List Client). raw_of p.before p.shelves rows) b
 
-page_store : (p : RawPage) → RawPageFits p → (judged_in p).sound ≡ true → StoreFits (with_rows bare p) × (raw_page_bytes p ≡ page_bytes p.before (with_rows bare p))
+pub page_store : (p : RawPage) → RawPageFits p → (judged_in p).sound ≡ true → StoreFits (with_rows bare p) × (raw_page_bytes p ≡ page_bytes p.before (with_rows bare p))
 unfolding page_bytes
 page_store p fits sound =
     let r = and_parts (rising_shelves 0 p.shelves) _ sound in
@@ -162,16 +162,9 @@ page_only bs v rest h e =
     let s = split (raw_page_of bs) judged (v, rest) e in
     let p = s.value in
     let o = page_forms.only bs p s.rest h s.first in
-    ⊎_elim
-    (λ (sound : (judged_in p).sound ≡ true).
-    let is = sym (cond-true (judged_in p).sound (Some (paged p.before (with_rows bare p), s.rest)) None sound) ∙ s.second in
-    let t = page_store p o.0 sound in
-    subst (λ (w : Paged). PagedFits w × (bs ≡ page_bytes w.before w.store ++ rest)) (same_value is) (
-      record { before = o.0.before; store = t.0 },
-      o.1 ∙ ap (λ (l : List ℕ). raw_page_bytes p ++ l) (same_rest is) ∙ ap (λ (l : List ℕ). l ++ rest) t.1,
-    ))
-    (λ (not : (judged_in p).sound ≡ false). absurd (none_some (sym (cond-false (judged_in p).sound (Some (paged p.before (with_rows bare p), s.rest)) None not) ∙ s.second)))
-    (cases_Bool (judged_in p).sound)
+    let d = if_so (judged_in p).sound (paged p.before (with_rows bare p), s.rest) (v, rest) s.second in
+    let t = page_store p o.0 d.0 in
+    subst (λ (w : Paged × List ℕ). PagedFits w.0 × (bs ≡ page_bytes w.0.before w.0.store ++ w.1)) d.1 (record { before = o.0.before; store = t.0 }, o.1 ∙ ap (λ (l : List ℕ). l ++ s.rest) t.1)
 
 pub pages : Pages
 pages = record { back = page_back; only = page_only }

@@ -1,11 +1,12 @@
 -- What requests make of a store that a page can hold.
 use Rattle.std.proofs.Common.{◌≡◌, ℕ, ◌+◌, Bool, true, false, cond, not, ltb, List, [], ◌∷◌, set, is_ok, Ok, Err, ◌∙◌, arith}
-use Rattle.page_laws.proofs.Stores.{Small, bare_fits, idle_set, lengths, small_at, wholly}
+use Rattle.page_laws.proofs.Stores.{Small, bare_fits, idle_set, small_at, wholly}
 use Rattle.page_laws.specs.Laws.{AskFits, Reached, RequestFits, StoreFits}
 use Rattle.std.proofs.ByRecursion.{All-set}
 use Rattle.std.proofs.lemmas.List.{length-set}
 use Rattle.std.proofs.lemmas.Bool.{and_parts, cond_both, eqb-true, false≢true}
 use Rattle.std.specs.List.{AllByRecursion}
+use Rattle.store.proofs.Whole.{lengths}
 use Rattle.store.specs.Ask.{key_of, leaves, says}
 use Rattle.store.specs.Store.{Store, applied, bare, done, is_next, last, played, shelf, tables, whole}
 use Rattle.store.specs.declared.ask.Ask.{Ask}

@@ -1,24 +1,12 @@
 -- Stores that a page can hold.
 use Rattle.std.proofs.Common.{◌≡◌, ℕ, zero, suc, ◌^◌, ◌<◌, ◌≤◌, true, eqb, List, length, get_or, set, replicate, sym, refl, ap, ◌∙◌, ⊎_elim, arith}
-use Rattle.page.specs.Page.{cleared}
 use Rattle.page_laws.specs.Laws.{StoreFits}
 use Rattle.std.proofs.ByRecursion.{All-get_or}
 use Rattle.std.proofs.lemmas.List.{get_or_past, get_or-replicate, get_or-set_other, get_or-set_same, length-replicate, set_past}
-use Rattle.std.proofs.lemmas.Bool.{and_from, and_parts, cases_eq, cases_lt, eq-eqb, eqb-true}
+use Rattle.std.proofs.lemmas.Bool.{and_from, cases_eq, cases_lt, eq-eqb}
 use Rattle.std.specs.List.{AllByRecursion}
-use Rattle.store.specs.Store.{Store, bare, tables, whole}
-
--- how long the tables are
-pub record Lengths (s : Store) : Type 0 where
-  pub shelves : length s.shelves ≡ 1024
-  pub lasts : length s.lasts ≡ 256
-  pub words : length s.words ≡ 256
-
-pub lengths : (s : Store) → whole s ≡ true → Lengths s
-lengths s h =
-    let a = and_parts (eqb (length s.shelves) 1024) _ h in
-    let b = and_parts (eqb (length s.lasts) 256) _ a.1 in
-    record { shelves = eqb-true (length s.shelves) 1024 a.0; lasts = eqb-true (length s.lasts) 256 b.0; words = eqb-true (length s.words) 256 b.1 }
+use Rattle.store.proofs.Whole.{Lengths, lengths}
+use Rattle.store.specs.Store.{Store, bare, cleared, tables, whole}
 
 pub wholly : (s : Store) → Lengths s → whole s ≡ true
 wholly s l =

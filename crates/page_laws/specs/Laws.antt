@@ -63,7 +63,7 @@ pub record Loads : Type 0 where
   pub fresh : (s : Store) (p : RawPage) (rest : List ℕ) → whole s ≡ true → loaded s (Some (p, rest)) ≡ with_rows bare p
   -- so to judge a page and then, if it is sound, to load it, into whatever store, is to accept it
   pub accepted : (s : Store) (bs : List ℕ) → whole s ≡ true →
-      accepted_page bs ≡ (page_of bs then λ judged rest. cond judged.sound (Some (record { before = judged.before; store = loaded s (raw_page_of bs) }, rest)) None)
+      accepted_page bs ≡ (page_of bs then λ judged rest. cond judged.sound (Some (record { before = judged.value; store = loaded s (raw_page_of bs) }, rest)) None)
 
 -- requests whose numbers fit their fields; whether client and key are in range doesn't matter, since doing a request asks that
 abbrev pub AskFits : Ask → Type 0

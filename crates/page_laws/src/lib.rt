@@ -4,26 +4,22 @@
 
 ghost use Rattle.page_laws.specs.Laws.{Loads, PageForms, Pages, Reached};
 
-pub fn page_forms_are_exact() -> u8
+#[tactic(auto, using(crate::proofs::Forms::page_forms))]
+pub fn page_forms_are_exact()
     ensures { PageForms }
-{
-    0
-}
+{}
 
-pub fn pages_are_exact() -> u8
+#[tactic(auto, using(crate::proofs::Pages::pages))]
+pub fn pages_are_exact()
     ensures { Pages }
-{
-    0
-}
+{}
 
-pub fn loading_is_accepting() -> u8
+#[tactic(auto, using(crate::proofs::Loading::loads))]
+pub fn loading_is_accepting()
     ensures { Loads }
-{
-    0
-}
+{}
 
-pub fn every_store_has_a_page() -> u8
+#[tactic(auto, using(crate::proofs::Reaching::reached))]
+pub fn every_store_has_a_page()
     ensures { Reached }
-{
-    0
-}
+{}
