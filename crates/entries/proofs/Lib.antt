@@ -1,4 +1,3 @@
-pub mod Judging
-mod Rooms
+mod Former
 mod Layers
-mod Lockstep
+mod Writes

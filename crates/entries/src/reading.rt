@@ -1,7 +1,7 @@
 // Entries read from bytes, one behind the other.
 ghost use Rattle.wire.specs.Bytes.{seen};
 ghost use Rattle.wire.specs.Several.{seen_rest};
-ghost use Rattle.entries.specs.Entries.{judged_of, loaded_into, loaded_rest};
+ghost use Rattle.entries.specs.Entries.{judged_of, loaded_into, read_into, read_rest};
 ghost use Rattle.std.specs.Prelude.{◌≡◌};
 
 use entry::{Entry, read_entry};
@@ -12,9 +12,9 @@ pub fn judge_entries(bytes: &[u8], count: u16) -> Option<(bool, &[u8])>
 {
     let mut sound = true;
     let mut rest = bytes;
-    for turn in 0..count {
+    for _ in 0..count {
         let (found, after) = read_entry(rest)?;
-        sound = sound & found.sound;
+        sound &= found.sound;
         rest = after;
     }
     Some((sound, rest))
@@ -23,7 +23,7 @@ pub fn judge_entries(bytes: &[u8], count: u16) -> Option<(bool, &[u8])>
 // Reads `count` entries, in range or not, into a log from its first place on: the bytes behind them.
 // Nothing of a log that is too short changes; where fewer entries stand in the bytes, those are read.
 pub fn load_entries<'a>(bytes: &'a [u8], count: u16, log: &mut [Entry]) -> Option<&'a [u8]>
-    ensures rest { seen_rest result ≡ loaded_rest count log.old bytes.now }
+    ensures rest { seen_rest result ≡ read_rest count log.old bytes.now }
     ensures log { log.new ≡ loaded_into count log.old bytes.now }
 {
     let places = usize::from(count);
@@ -31,10 +31,20 @@ pub fn load_entries<'a>(bytes: &'a [u8], count: u16, log: &mut [Entry]) -> Optio
         return None;
     }
     let mut rest = bytes;
-    for at in 0..places {
+    for place in &mut log[..places] {
         let (found, after) = read_entry(rest)?;
-        log[at] = found.entry;
+        *place = found.value;
         rest = after;
     }
     Some(rest)
+}
+
+// Reads `count` entries into a log from its first place on: the bytes behind them.
+// Nothing changes where the log is too short or the entries aren't there.
+pub fn read_entries<'a>(bytes: &'a [u8], count: u16, log: &mut [Entry]) -> Option<&'a [u8]>
+    ensures rest { seen_rest result ≡ read_rest count log.old bytes.now }
+    ensures log { log.new ≡ read_into count log.old bytes.now }
+{
+    judge_entries(bytes, count)?;
+    load_entries(bytes, count, log)
 }

@@ -15,11 +15,10 @@ pub fn entries_size(entries: &[Entry]) -> usize
     ensures size { result ≡ length (entries_bytes entries.now) }
     ensures bound { result ≤ 18 * length entries.now }
 {
+    // not `sum`: its clause is about the iterator's runs, and the bound would still have to be shown
     let mut size = 0;
-    let mut rest = entries;
-    while let Some((entry, after)) = rest.split_first() {
+    for entry in entries {
         size += entry_size(*entry);
-        rest = after;
     }
     size
 }
@@ -31,19 +30,15 @@ pub fn put_entries(entries: &[Entry], out: &mut [u8], at: usize) -> usize
     ensures bytes { out.new ≡ placed_at out.old at (entries_bytes entries.now) }
 {
     let mut next = at;
-    let mut rest = entries;
-    while let Some((entry, after)) = rest.split_first() {
-        let Some(end) = write_entry(*entry, out, next) else {
-            unreachable()
-        };
-        next = end;
-        rest = after;
+    for entry in entries {
+        next = write_entry(*entry, out, next).unwrap();
     }
     next
 }
 
 // Writes a header and the entries behind it into `out` from `at` on, and says where they end.
 // More entries than a log has are refused; then, or without room for all of it, nothing is written.
+#[tactic(auto, using(wire::proofs::Over::placed_placed))]
 pub fn write_behind(header: &[u8], entries: &[Entry], out: &mut [u8], at: usize) -> Option<usize>
     ensures end { result ≡ fitting (length entries.now) (placed (length out.old) at (length (header.now ++ entries_bytes entries.now))) None }
     ensures bytes { out.new ≡ fitting (length entries.now) (placed_at out.old at (header.now ++ entries_bytes entries.now)) out.old }
@@ -57,8 +52,6 @@ pub fn write_behind(header: &[u8], entries: &[Entry], out: &mut [u8], at: usize)
     if end > out.len() {
         return None;
     }
-    let Some(next) = put(out, at, header) else {
-        unreachable()
-    };
+    let next = put(out, at, header).unwrap();
     Some(put_entries(entries, out, next))
 }

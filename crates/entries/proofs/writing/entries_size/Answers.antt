@@ -1,11 +1,14 @@
-use Rattle.entries.proofs.Rooms.{size_more, size_none}
+use Rattle.std.proofs.Common.{arith}
+use Rattle.wire.proofs.Joined.{joined-end, length-joined-from}
 use Rattle.entries.proofs.writing.entries_size.Goals as goal
-use Rattle.std.proofs.Common.{rules}
+use Rattle.entry.specs.Entry.{entry_bytes}
 
 pub loop-entry-preserved : goal.loop-entry-preserved
 loop-entry-preserved c =
-    let k = size_more c.loop-entry.rest.now c.in-Some.after.now c.in-Some.entry.now c.in-Some.ensures.cases.0 in
-    (search rules, search rules)
+    let more = length-joined-from entry_bytes c.args.entries.now c.loop-entry.entry-index _ _ c.loop-entry-test.true c.entry_size-size.ensures.size in
+    grind (arith, more)
 
-pub returns : goal.returns
-returns c = let e = size_none c.loop-entry.rest.now (search rules) in record { size = search rules; bound = search rules }
+pub returns-clause-size : goal.returns-clause-size
+returns-clause-size c =
+    let none = joined-end entry_bytes c.args.entries.now c.loop-entry.entry-index c.loop-entry-test.false in
+    grind (arith, none)
