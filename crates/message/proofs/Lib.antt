@@ -1,4 +1,2 @@
-mod Unknowns
-mod Parts
 pub mod Limits
 pub mod Whole

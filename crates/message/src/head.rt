@@ -1,5 +1,5 @@
-// What stands in a message besides its entries and its page.
-#[derive(Clone, Copy)]
+// What stands in a message besides its entries and its page: the fields of each kind, as its format lists them.
+#[derive(Clone, Copy, PartialEq, Eq, Debug)]
 pub enum Message {
     // a station asks to lead a ballot
     Ask {
@@ -34,11 +34,4 @@ pub enum Message {
         members: u16,
         before: u32,
     },
-}
-
-// A message of the right form; `sound` if all of it is in range.
-#[derive(Clone, Copy)]
-pub struct Judged {
-    pub message: Message,
-    pub sound: bool,
 }

@@ -7,7 +7,7 @@ use crate::head::Message;
 use crate::heads::read_head;
 use entries::judge_entries;
 use page::judge_page;
-use wire::Fault;
+use wire::{Fault, Judged};
 
 // Whether the entries or the page behind a head are in range, and the bytes behind them.
 fn judge_body(message: Message, body: &[u8]) -> Option<(bool, &[u8])>
@@ -23,26 +23,23 @@ fn judge_body(message: Message, body: &[u8]) -> Option<(bool, &[u8])>
     }
 }
 
-// A message's head and body, or what is wrong with the message.
+// A message's head and body, or what is wrong with the message: its form before its range.
 pub fn open(bytes: &[u8]) -> Result<(Message, &[u8]), Fault>
     ensures { seen_opened result ≡ opened_in bytes.now }
 {
-    let Some((head, body)) = read_head(bytes) else {
+    let (head, body) = read_head(bytes).ok_or(Fault::Malformed)?;
+    let (sound, rest) = judge_body(head.value, body).ok_or(Fault::Malformed)?;
+    if !rest.is_empty() {
         return Err(Fault::Malformed);
-    };
-    match judge_body(head.message, body) {
-        Some((sound, rest)) if rest.is_empty() => {
-            if head.sound & sound {
-                Ok((head.message, body))
-            } else {
-                Err(Fault::OutOfRange)
-            }
-        }
-        _ => Err(Fault::Malformed),
     }
+    let message = Judged {
+        value: (head.value, body),
+        sound: head.sound && sound,
+    };
+    message.accept()
 }
 
-// The head of a message, or what is wrong with the message, its form before its range.
+// The head of a message, or what is wrong with the message.
 pub fn judge(bytes: &[u8]) -> Result<Message, Fault>
     ensures { result ≡ judged_in bytes.now }
 {

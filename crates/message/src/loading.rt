@@ -1,6 +1,7 @@
 // A message read: its entries into a lent log, its page into the lent tables of a store.
 ghost use Rattle.message.specs.Loading.{has_room, log_after, log_with, read_in, store_after, store_with};
-ghost use Rattle.store.specs.Store.{lent};
+ghost use Rattle.message.specs.declared.loading.Unread.TheVariants.{Refused};
+ghost use Rattle.store.specs.Tables.{SameLoans, held, held_mut};
 ghost use Rattle.std.specs.Prelude.{◌≡◌, true};
 
 use crate::head::Message;
@@ -8,19 +9,27 @@ use crate::judging::open;
 use entries::load_entries;
 use entry::Entry;
 use page::load_page;
-use store::is_whole;
+use store::{Tables, TablesMut};
 use wire::Fault;
 
 // Why a message was not read: what is wrong with it, or lent memory that is too short for it.
-#[derive(Clone, Copy)]
+#[derive(Clone, Copy, PartialEq, Eq, Debug)]
 pub enum Unread {
     Refused(Fault),
     NoRoom,
 }
 
+impl From<Fault> for Unread {
+    ghost from_gives = { λ fault unread. unread ≡ Refused fault };
+
+    fn from(fault: Fault) -> Unread {
+        Unread::Refused(fault)
+    }
+}
+
 // Whether there is room for what a message brings.
-fn has_room(message: Message, log: &[Entry], shelves: &[u32], lasts: &[u32], words: &[u32]) -> bool
-    ensures { result ≡ has_room message log.now (lent shelves.now lasts.now words.now) }
+fn has_room(message: Message, log: &[Entry], store: Tables<'_>) -> bool
+    ensures { result ≡ has_room message log.now (held store.entry) }
 {
     match message {
         Message::Ask { .. } | Message::Took { .. } => true,
@@ -28,22 +37,16 @@ fn has_room(message: Message, log: &[Entry], shelves: &[u32], lasts: &[u32], wor
         Message::Part { place, count, .. } => {
             usize::from(place) + usize::from(count) <= log.len()
         }
-        Message::Begin { .. } => is_whole(shelves, lasts, words),
+        Message::Begin { .. } => store.is_whole(),
     }
 }
 
 // Reads the body of a message.
-fn load(
-    message: Message,
-    body: &[u8],
-    log: &mut [Entry],
-    shelves: &mut [u32],
-    lasts: &mut [u32],
-    words: &mut [u32],
-)
-    requires { has_room message log.old (lent shelves.old lasts.old words.old) ≡ true }
+fn load(message: Message, body: &[u8], log: &mut [Entry], store: &mut TablesMut<'_>)
+    requires { has_room message log.old (held_mut store.old) ≡ true }
     ensures log { log.new ≡ log_with message body.now log.old }
-    ensures store { lent shelves.new lasts.new words.new ≡ store_with message body.now (lent shelves.old lasts.old words.old) }
+    ensures store { held_mut store.new ≡ store_with message body.now (held_mut store.old) }
+    ensures loans { SameLoans store.old store.new }
 {
     match message {
         Message::Ask { .. } | Message::Took { .. } => {}
@@ -54,32 +57,23 @@ fn load(
             load_entries(body, count, &mut log[usize::from(place)..]);
         }
         Message::Begin { .. } => {
-            load_page(body, shelves, lasts, words);
+            load_page(body, store);
         }
     }
 }
 
 // Reads a message: its head; a promise's entries into the log from its first place on, a part's from that part's
 // place on; a begin's page into the tables. Nothing changes where the message is refused or there is no room for it.
-pub fn read(
-    bytes: &[u8],
-    log: &mut [Entry],
-    shelves: &mut [u32],
-    lasts: &mut [u32],
-    words: &mut [u32],
-) -> Result<Message, Unread>
-    ensures head { result ≡ read_in bytes.now log.old (lent shelves.old lasts.old words.old) }
-    ensures log { log.new ≡ log_after bytes.now log.old (lent shelves.old lasts.old words.old) }
-    ensures store { lent shelves.new lasts.new words.new ≡ store_after bytes.now log.old (lent shelves.old lasts.old words.old) }
+pub fn read(bytes: &[u8], log: &mut [Entry], store: &mut TablesMut<'_>) -> Result<Message, Unread>
+    ensures head { result ≡ read_in bytes.now log.old (held_mut store.old) }
+    ensures log { log.new ≡ log_after bytes.now log.old (held_mut store.old) }
+    ensures store { held_mut store.new ≡ store_after bytes.now log.old (held_mut store.old) }
+    ensures loans { SameLoans store.old store.new }
 {
-    match open(bytes) {
-        Ok((message, body)) => {
-            if !has_room(message, log, shelves, lasts, words) {
-                return Err(Unread::NoRoom);
-            }
-            load(message, body, log, shelves, lasts, words);
-            Ok(message)
-        }
-        Err(fault) => Err(Unread::Refused(fault)),
+    let (message, body) = open(bytes)?;
+    if !has_room(message, log, store.as_tables()) {
+        return Err(Unread::NoRoom);
     }
+    load(message, body, log, store);
+    Ok(message)
 }

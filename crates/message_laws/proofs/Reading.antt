@@ -7,12 +7,12 @@ use Rattle.wire.specs.declared.fault.Fault.TheVariants.{Malformed, OutOfRange}
 use Rattle.entry.specs.declared.entry.Entry.{Entry}
 use Rattle.message.specs.Loading.{has_room, log_to, log_with, read_to, store_to, store_with}
 use Rattle.message.specs.Message.{body_of, ended_to, head_of, opened_in, opened_to}
-use Rattle.message.specs.declared.head.Judged.{Judged}
+use Rattle.wire.specs.declared.judged.Judged.{Judged}
 use Rattle.message.specs.declared.head.Message.{Message}
 use Rattle.message.specs.declared.head.Message.TheVariants.{Ask, Begin, Part, Promise, Took}
 use Rattle.message.specs.declared.loading.Unread.{Unread}
 use Rattle.message.specs.declared.loading.Unread.TheVariants.{NoRoom}
-use Rattle.message_laws.proofs.Letters.{err_ok, letter_read}
+use Rattle.message_laws.proofs.Letters.{letter_read}
 use Rattle.message_laws.proofs.Opening.{store_is, with_letter}
 use Rattle.message.specs.Letter.{Letter, head_of_letter, letter_bytes}
 use Rattle.message_laws.specs.Laws.{LetterFits, Reads, letter_with, log_from, store_from}
@@ -26,22 +26,19 @@ pub record BodyRead (m : Message) (body : List ℕ) : Type 0 where
   pub read : Bool × List ℕ
   pub is : body_of m body ≡ Some read
 
-same_ok : {A B : Type 0} {a b : A} → ◌≡◌ {A = Result A B} (Ok a) (Ok b) → a ≡ b
-same_ok e = cc
-
 ended_as : (e ok : Bool) (p q : Message × List ℕ) → cond {A = Result (Message × List ℕ) Fault} e (cond ok (Ok p) (Err OutOfRange)) (Err Malformed) ≡ Ok q → p ≡ q
-ended_as true true p q e = same_ok e
-ended_as true false p q e = absurd (err_ok q OutOfRange e)
-ended_as false ok p q e = absurd (err_ok q Malformed e)
+ended_as true true p q e = cc
+ended_as true false p q e = cc
+ended_as false ok p q e = cc
 
-ended_read : (j : Judged) (body : List ℕ) (o : Read Bool) (q : Message × List ℕ) → body_of j.message body ≡ o → ended_to j body o ≡ Ok q → BodyRead q.0 q.1
-ended_read j body None q i e = absurd (err_ok q Malformed e)
+ended_read : (j : Judged Message) (body : List ℕ) (o : Read Bool) (q : Message × List ℕ) → body_of j.value body ≡ o → ended_to j body o ≡ Ok q → BodyRead q.0 q.1
+ended_read j body None q i e = cc
 ended_read j body (Some p) q i e =
-    subst (λ (r : Message × List ℕ). BodyRead r.0 r.1) (ended_as (eqb (length p.1) 0) (j.sound && p.0) (j.message, body) q e) (record { read = p; is = i })
+    subst (λ (r : Message × List ℕ). BodyRead r.0 r.1) (ended_as (eqb (length p.1) 0) (j.sound && p.0) (j.value, body) q e) (record { read = p; is = i })
 
-body_read : (o : Read Judged) (q : Message × List ℕ) → opened_to o ≡ Ok q → BodyRead q.0 q.1
-body_read None q e = absurd (err_ok q Malformed e)
-body_read (Some p) q e = ended_read p.0 p.1 (body_of p.0.message p.1) q refl e
+body_read : (o : Read (Judged Message)) (q : Message × List ℕ) → opened_to o ≡ Ok q → BodyRead q.0 q.1
+body_read None q e = cc
+body_read (Some p) q e = ended_read p.0 p.1 (body_of p.0.value p.1) q refl e
 
 -- the log and the store that a message with its body leaves are those of its letter
 log_is : (m : Message) (body : List ℕ) (log : List Entry) → log_with m body log ≡ log_from (letter_with m body) log
@@ -68,9 +65,9 @@ pub record Left (o : Result (Message × List ℕ) Fault) (l : Letter) (es : List
   pub store : store_to o es s ≡ store_from l s
 
 left_at : (o : Result (Message × List ℕ) Fault) (l : Letter) (log : List Entry) (s : Store) → ((q : Message × List ℕ) → o ≡ Ok q → BodyRead q.0 q.1) → with_letter o ≡ Ok (head_of_letter l, l) → has_room (head_of_letter l) log s ≡ true → Left o l log s
-left_at (Err f) l log s r e h = absurd (err_ok (head_of_letter l, l) f e)
+left_at (Err f) l log s r e h = cc
 left_at (Ok p) l log s r e h =
-    let both = same_ok e in
+    let both : ◌≡◌ {A = Message × Letter} (p.0, letter_with p.0 p.1) (head_of_letter l, l) = cc in
     let m : p.0 ≡ head_of_letter l = ap (λ (q : Message × Letter). q.0) both in
     let is : letter_with p.0 p.1 ≡ l = ap (λ (q : Message × Letter). q.1) both in
     let room : has_room p.0 log s ≡ true = ap (λ (n : Message). has_room n log s) m ∙ h in
@@ -85,7 +82,7 @@ left l log s fits h = left_at (opened_in (letter_bytes l)) l log s (body_read (h
 
 -- what is not read changes nothing
 kept_if : (room : Bool) (m : Message) (log more : List Entry) (s other : Store) (why : Unread) → cond {A = Result Message Unread} room (Ok m) (Err NoRoom) ≡ Err why → (cond room more log ≡ log) × (cond room other s ≡ s)
-kept_if true m log more s other why e = absurd (err_ok m why (sym e))
+kept_if true m log more s other why e = cc
 kept_if false m log more s other why e = (refl, refl)
 
 kept : (o : Result (Message × List ℕ) Fault) (log : List Entry) (s : Store) (why : Unread) → read_to o log s ≡ Err why → (log_to o log s ≡ log) × (store_to o log s ≡ s)

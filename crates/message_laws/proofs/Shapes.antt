@@ -1,6 +1,6 @@
 -- Messages in bytes, in range or not.
-use Rattle.std.proofs.Common.{◌≡◌, ℕ, ◌+◌, ◌*◌, ◌/◌, ◌%◌, ◌≤◌, true, false, cond, eqb, ltb, List, [], ◌∷◌, ◌++◌, length, Some, None, sym, refl, ap, ◌∙◌, subst, ⊎_elim, arith}
-use Rattle.wire.proofs.Exacts.{four_exact, none_some, one_exact, same_rest, same_value, split, two_exact}
+use Rattle.std.proofs.Common.{◌≡◌, ℕ, ◌+◌, cond, eqb, ltb, List, [], ◌∷◌, ◌++◌, length, Some, None, sym, refl, ap, ◌∙◌, subst, arith}
+use Rattle.wire.proofs.Exacts.{by_kind, four_exact, one_exact, same_rest, same_value, split, two_exact, within}
 use Rattle.wire.proofs.Runs.{several_exact, took}
 use Rattle.wire.specs.Bytes.{Read, ◌then◌, four, four_bytes, one, two, two_bytes}
 use Rattle.wire.specs.Exact.{Bytes, Exact}
@@ -12,7 +12,8 @@ use Rattle.message_laws.specs.Laws.{RawAsks, RawBegins, RawLetter, RawLetterFits
 use Rattle.page.specs.Page.{RawPage, raw_page_bytes, raw_page_of}
 use Rattle.page_laws.proofs.Forms.{page_forms}
 use Rattle.std.proofs.lemmas.List.{append_assoc}
-use Rattle.std.proofs.lemmas.Bool.{cases_Bool, cond-false, cond-true, eqb-true, le-ltb, ltb-false}
+use Rattle.std.proofs.lemmas.Nat.{div-add-mod'}
+use Rattle.std.proofs.lemmas.Bool.{cond-false, le-ltb}
 
 -- each kind as it stands in bytes, behind the byte for its kind
 abbrev pub raw_ask_of : List ℕ → Read RawLetter
@@ -50,14 +51,6 @@ field {r = r} {w = w} x Goal before bs k y h e next =
     let s = split (r bs) k y e in
     let t = took x bs s.value s.rest h s.first in
     subst Goal (append_assoc before (w s.value) s.rest ∙ ap (λ (l : List ℕ). before ++ l) (sym t.is)) (next s.value s.rest t.fits t.behind s.second)
-
--- a count within its limit
-pub within : {B : Type 0} (Goal : Type 0) (limit n : ℕ) (o : Read B) (y : B × List ℕ) → cond (ltb limit n) None o ≡ Some y → (n ≤ limit → o ≡ Some y → Goal) → Goal
-within Goal limit n o y e next =
-    ⊎_elim
-    (λ (b : ltb limit n ≡ true). absurd (none_some (sym (cond-true (ltb limit n) None o b) ∙ e)))
-    (λ (b : ltb limit n ≡ false). next (ltb-false limit n b) (sym (cond-false (ltb limit n) None o b) ∙ e))
-    (cases_Bool (ltb limit n))
 
 -- the letter that was read is the one that was made
 abbrev Is : RawLetter → List ℕ → List ℕ → Type 0
@@ -113,14 +106,6 @@ begin_only w rest bs h e =
     field page_forms (Is w rest) (7 ∷ (two_bytes term ++ list_bytes members)) bs _ _ h e (λ page bs k h e.
     made_is (RawBegins term members page) w bs rest _ e (i, j.0, j.1, k) refl)))
 
--- one kind of several
-by_kind : {B : Type 0} (Goal : ℕ → Type 0) (kind n : ℕ) (a b : Read B) (y : B × List ℕ) → cond (eqb kind n) a b ≡ Some y → (a ≡ Some y → Goal n) → (b ≡ Some y → Goal kind) → Goal kind
-by_kind Goal kind n a b y e this other =
-    ⊎_elim
-    (λ (t : eqb kind n ≡ true). subst Goal (sym (eqb-true kind n t)) (this (sym (cond-true (eqb kind n) a b t) ∙ e)))
-    (λ (f : eqb kind n ≡ false). other (sym (cond-false (eqb kind n) a b f) ∙ e))
-    (cases_Bool (eqb kind n))
-
 kind_only : (w : RawLetter) (rest bs : List ℕ) (kind : ℕ) → Bytes bs → raw_kind_of kind bs ≡ Some (w, rest) → Is w rest (kind ∷ bs)
 kind_only w rest bs kind h e =
     let Goal = λ (k : ℕ). Is w rest (k ∷ bs) in
@@ -128,60 +113,24 @@ kind_only w rest bs kind h e =
     by_kind Goal kind 4 _ _ _ e (promise_only w rest bs h) (λ e.
     by_kind Goal kind 5 _ _ _ e (part_only w rest bs h) (λ e.
     by_kind Goal kind 6 _ _ _ e (took_only w rest bs h) (λ e.
-    by_kind Goal kind 7 _ _ _ e (begin_only w rest bs h) (λ e. absurd (none_some e))))))
+    by_kind Goal kind 7 _ _ _ e (begin_only w rest bs h) (λ e. cc)))))
 
 raw_only : (bs : List ℕ) (w : RawLetter) (rest : List ℕ) → Bytes bs → raw_letter_of bs ≡ Some (w, rest) → Is w rest bs
 raw_only bs w rest h e = field one_exact (Is w rest) [] bs _ _ h e (λ kind bs i h e. kind_only w rest bs kind h e)
 
--- numbers of two and four bytes, read again
-two_is : (n : ℕ) → n / 256 * 256 + n % 256 ≡ n
-two_is n = omega arith
-
-four_is : (n : ℕ) → (n / 65536 / 256 * 256 + n / 65536 % 256) * 65536 + (n % 65536 / 256 * 256 + n % 65536 % 256) ≡ n
-four_is n = omega arith
-
--- what follows the fields of each kind
-abbrev promised : ℕ → ℕ → ℕ → ℕ → ℕ → List ℕ → Read RawLetter
-promised term ballot from had count bs = cond (ltb 4096 count) None (several raw_of count bs then λ log bs. Some (RawPromises term ballot from had log, bs))
-
-abbrev parted : ℕ → ℕ → ℕ → ℕ → List ℕ → Read RawLetter
-parted term ballot place count bs = cond (ltb 4096 (place + count)) None (several raw_of count bs then λ es bs. Some (RawParts term ballot place es, bs))
-
-abbrev took_all : ℕ → ℕ → ℕ → ℕ → List ℕ → Read RawLetter
-took_all term ballot from count bs = cond (ltb 4096 count) None (Some (RawTakes term ballot from count, bs))
-
-abbrev begun_by : ℕ → List ℕ → List ℕ → Read RawLetter
-begun_by term members bs = raw_page_of bs then λ page bs. Some (RawBegins term members page, bs)
-
--- a number as it is read again
-abbrev again2 : ℕ → ℕ
-again2 n = n / 256 * 256 + n % 256
-
-abbrev again4 : ℕ → ℕ
-again4 n = again2 (n / 65536) * 65536 + again2 (n % 65536)
-
 raw_back : (w : RawLetter) (rest : List ℕ) → RawLetterFits w → raw_letter_of (raw_letter_bytes w ++ rest) ≡ Some (w, rest)
-raw_back (RawAsks t b) rest h = ap (λ (n : ℕ). Some (RawAsks n (again4 b), rest)) (two_is t) ∙ ap (λ (n : ℕ). Some (RawAsks t n, rest)) (four_is b)
+raw_back (RawAsks t b) rest h = simp div-add-mod'
 raw_back (RawPromises t b from had log) rest h =
-    let l = joined raw_bytes log ++ rest in
     let c = length log in
-    ap (λ (n : ℕ). promised n (again4 b) from (again4 had) (again2 c) l) (two_is t) ∙ ap (λ (n : ℕ). promised t n from (again4 had) (again2 c) l) (four_is b) ∙
-    ap (λ (n : ℕ). promised t b from n (again2 c) l) (four_is had) ∙ ap (λ (n : ℕ). promised t b from had n l) (two_is c) ∙
-    cond-false (ltb 4096 c) None _ (le-ltb 4096 c h.4) ∙ ap (λ (o : Read (List Raw)). o then λ log bs. Some (RawPromises t b from had log, bs)) ((several_exact forms c).back log rest (refl, h.5))
+    simp div-add-mod' (cond-false (ltb 4096 c) None _ (le-ltb 4096 c h.4) ∙ ap (λ (o : Read (List Raw)). o then λ log bs. Some (RawPromises t b from had log, bs)) ((several_exact forms c).back log rest (refl, h.5)))
 raw_back (RawParts t b place es) rest h =
-    let l = joined raw_bytes es ++ rest in
     let c = length es in
-    ap (λ (n : ℕ). parted n (again4 b) (again2 place) (again2 c) l) (two_is t) ∙ ap (λ (n : ℕ). parted t n (again2 place) (again2 c) l) (four_is b) ∙
-    ap (λ (n : ℕ). parted t b n (again2 c) l) (two_is place) ∙ ap (λ (n : ℕ). parted t b place n l) (two_is c) ∙
-    cond-false (ltb 4096 (place + c)) None _ (le-ltb 4096 (place + c) h.2) ∙ ap (λ (o : Read (List Raw)). o then λ es bs. Some (RawParts t b place es, bs)) ((several_exact forms c).back es rest (refl, h.3))
-raw_back (RawTakes t b from c) rest h =
-    let few = h.3 in
-    ap (λ (n : ℕ). took_all n (again4 b) from (again2 c) rest) (two_is t) ∙ ap (λ (n : ℕ). took_all t n from (again2 c) rest) (four_is b) ∙ ap (λ (n : ℕ). took_all t b from n rest) (two_is c) ∙
-    cond-false (ltb 4096 c) None (Some (RawTakes t b from c, rest)) (le-ltb 4096 c (omega arith))
+    simp div-add-mod' (cond-false (ltb 4096 (place + c)) None _ (le-ltb 4096 (place + c) h.2) ∙ ap (λ (o : Read (List Raw)). o then λ es bs. Some (RawParts t b place es, bs)) ((several_exact forms c).back es rest (refl, h.3)))
+raw_back (RawTakes t b from c) rest h = let few = h.3 in simp div-add-mod' (cond-false (ltb 4096 c) None (Some (RawTakes t b from c, rest)) (le-ltb 4096 c (omega arith)))
 raw_back (RawBegins t ms p) rest h =
-    ap (λ (l : List ℕ). raw_letter_of (7 ∷ (two_bytes t ++ (length ms ∷ l)))) (append_assoc ms (raw_page_bytes p) rest) ∙
-    ap (λ (o : Read (List ℕ)). o then λ ms bs. begun_by (again2 t) ms bs) (list_exact.back ms (raw_page_bytes p ++ rest) (h.1, h.2)) ∙
-    ap (λ (n : ℕ). begun_by n ms (raw_page_bytes p ++ rest)) (two_is t) ∙ ap (λ (o : Read RawPage). o then λ page bs. Some (RawBegins t ms page, bs)) (page_forms.back p rest h.3)
+    ap (λ (l : List ℕ). raw_letter_of (7 ∷ (two_bytes t ++ (length ms ∷ l)))) (append_assoc ms (raw_page_bytes p) rest) ∙ simp div-add-mod'
+    (ap (λ (o : Read (List ℕ)). o then λ ms bs. raw_page_of bs then λ page bs. Some (RawBegins t ms page, bs)) (list_exact.back ms (raw_page_bytes p ++ rest) (h.1, h.2)) ∙
+    ap (λ (o : Read RawPage). o then λ page bs. Some (RawBegins t ms page, bs)) (page_forms.back p rest h.3))
 
 pub raw_exact : Exact raw_letter_of raw_letter_bytes RawLetterFits
 raw_exact = record { back = raw_back; only = raw_only }

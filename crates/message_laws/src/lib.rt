@@ -4,20 +4,17 @@
 
 ghost use Rattle.message_laws.specs.Laws.{Letters, Reads, Refusals};
 
-pub fn letters_are_exact() -> u8
+#[tactic(auto, using(crate::proofs::Letters::letters))]
+pub fn letters_are_exact()
     ensures { Letters }
-{
-    0
-}
+{}
 
-pub fn letters_are_read_into_log_and_store() -> u8
+#[tactic(auto, using(crate::proofs::Reading::reads))]
+pub fn letters_are_read_into_log_and_store()
     ensures { Reads }
-{
-    0
-}
+{}
 
-pub fn refusals_say_what_is_wrong() -> u8
+#[tactic(auto, using(crate::proofs::Refusing::refusals))]
+pub fn refusals_say_what_is_wrong()
     ensures { Refusals }
-{
-    0
-}
+{}

@@ -5,20 +5,22 @@ ghost use Rattle.std.specs.Prelude.{◌≡◌, ◌+◌, length, if◌then◌else
 ghost use Rattle.wire.specs.Bytes.{placed, placed_at};
 ghost use Rattle.entries.specs.Entries.{fitting};
 ghost use Rattle.message.specs.Message.{ask_bytes, begin_bytes, part_bytes, promise_bytes, took_bytes};
-ghost use Rattle.store.specs.Store.{lent, whole};
+ghost use Rattle.store.specs.Store.{whole};
+ghost use Rattle.store.specs.Tables.{held};
 
 use entries::{LOG, write_behind};
 use entry::{Entry, list_members};
 use page_write::write_page;
-use wire::{put, put_both, u16_bytes, u32_bytes};
+use store::Tables;
+use wire::{Fixed, put, put_both};
 
 // Writes an ask into `out` from `at` on, and says where it ends; without room for all of it nothing is written.
 pub fn write_ask(term: u16, ballot: u32, out: &mut [u8], at: usize) -> Option<usize>
     ensures end { result ≡ placed (length out.old) at (length (ask_bytes term ballot)) }
     ensures bytes { out.new ≡ placed_at out.old at (ask_bytes term ballot) }
 {
-    let t = u16_bytes(term);
-    let b = u32_bytes(ballot);
+    let t = term.bytes();
+    let b = ballot.bytes();
     put(out, at, &[3, t[0], t[1], b[0], b[1], b[2], b[3]])
 }
 
@@ -34,9 +36,9 @@ pub fn write_took(
     ensures end { result ≡ placed (length out.old) at (length (took_bytes term ballot from count)) }
     ensures bytes { out.new ≡ placed_at out.old at (took_bytes term ballot from count) }
 {
-    let t = u16_bytes(term);
-    let b = u32_bytes(ballot);
-    let c = u16_bytes(count);
+    let t = term.bytes();
+    let b = ballot.bytes();
+    let c = count.bytes();
     put(
         out,
         at,
@@ -60,10 +62,10 @@ pub fn write_part(
     if entries.len() > room || usize::from(place) + entries.len() > room {
         return None;
     }
-    let t = u16_bytes(term);
-    let b = u32_bytes(ballot);
-    let p = u16_bytes(place);
-    let c = u16_bytes(entries.len() as u16);
+    let t = term.bytes();
+    let b = ballot.bytes();
+    let p = place.bytes();
+    let c = (entries.len() as u16).bytes();
     let header = [
         5, t[0], t[1], b[0], b[1], b[2], b[3], p[0], p[1], c[0], c[1],
     ];
@@ -86,10 +88,10 @@ pub fn write_promise(
     if entries.len() > usize::from(LOG) {
         return None;
     }
-    let t = u16_bytes(term);
-    let b = u32_bytes(ballot);
-    let h = u32_bytes(had);
-    let c = u16_bytes(entries.len() as u16);
+    let t = term.bytes();
+    let b = ballot.bytes();
+    let h = had.bytes();
+    let c = (entries.len() as u16).bytes();
     let header = [
         4, t[0], t[1], b[0], b[1], b[2], b[3], from, h[0], h[1], h[2], h[3], c[0], c[1],
     ];
@@ -101,20 +103,18 @@ pub fn write_begin(
     term: u16,
     members: u16,
     before: u32,
-    shelves: &[u32],
-    lasts: &[u32],
-    words: &[u32],
+    store: Tables<'_>,
     out: &mut [u8],
     at: usize,
 ) -> Option<usize>
-    ensures end { result ≡ (if whole (lent shelves.now lasts.now words.now) then placed (length out.old) at (length (begin_bytes term members before (lent shelves.now lasts.now words.now))) else None) }
-    ensures bytes { out.new ≡ (if whole (lent shelves.now lasts.now words.now) then placed_at out.old at (begin_bytes term members before (lent shelves.now lasts.now words.now)) else out.old) }
+    ensures end { result ≡ (if whole (held store.entry) then placed (length out.old) at (length (begin_bytes term members before (held store.entry))) else None) }
+    ensures bytes { out.new ≡ (if whole (held store.entry) then placed_at out.old at (begin_bytes term members before (held store.entry)) else out.old) }
 {
-    let t = u16_bytes(term);
-    let listing = list_members(members);
-    let page = at.checked_add(4 + listing.len)?;
-    let end = write_page(before, shelves, lasts, words, out, page)?;
-    let header = [7, t[0], t[1], listing.len as u8];
-    put_both(out, at, &header, &listing.stations[0..listing.len]);
+    let t = term.bytes();
+    let list = list_members(members);
+    let page = at.checked_add(4 + list.len())?;
+    let end = write_page(before, store, out, page)?;
+    let header = [7, t[0], t[1], list.len() as u8];
+    put_both(out, at, &header, list.as_slice());
     Some(end)
 }
