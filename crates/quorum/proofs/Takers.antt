@@ -1,22 +1,50 @@
 -- Those that took so many, gathered from the last station down.
-use Rattle.std.proofs.Common.{◌≡◌, ℕ, suc, ◌+◌, ◌-◌, ◌*◌, ◌^◌, ◌<◌, ◌≤◌, cond, leb, List, length, get_or, drop, sym, ap, ◌∙◌, pow-suc, arith}
+use Rattle.std.proofs.Common.{◌≡◌, ℕ, suc, ◌+◌, ◌-◌, ◌*◌, ◌^◌, ◌<◌, ◌≤◌, Bool, true, false, cond, leb, List, [], ◌∷◌, ◌++◌, length, refl, sym, ap, ◌∙◌, pow-suc, arith}
+use Rattle.std.proofs.lemmas.List.{append_assoc, append-nil, length-append, nil_from_length}
+use Rattle.std.proofs.Math.Pow.{pow_mono}
+use Rattle.std.specs.Int.{from_bool}
 use Rattle.quorum.specs.Tally.{takers}
-use Rattle.std.proofs.lemmas.List.{drop_all, drop_more}
 
--- one station more
-pub takers_more : (k i bit set : ℕ) (took : List ℕ) (d : ℕ) → 1 ≤ i → i ≤ length took → bit ≡ cond (leb k (get_or took (i - 1) d)) 1 0 → set ≡ takers k (drop i took) → bit + 2 * set ≡ takers k (drop (i - 1) took)
+-- a set of those behind the stations that are left, in as many bits
+pub record Gathers (k : ℕ) (took rest : List ℕ) (set : ℕ) : Type 0 where
+  done : List ℕ
+  whole : took ≡ rest ++ done
+  those : set ≡ takers k done
+  fits : set < 2 ^ (16 - length rest)
+
+pub gathers_none : (k : ℕ) (took rest : List ℕ) → length took ≡ 16 → rest ≡ took → Gathers k took rest 0
 unfolding takers
-takers_more k i bit set took d some few e f =
-    let n : i - 1 + 1 ≡ i = omega arith in
-    ap (λ (b : ℕ). b + 2 * set) e ∙ ap (λ (s : ℕ). cond (leb k (get_or took (i - 1) d)) 1 0 + 2 * s) (f ∙ ap (λ (m : ℕ). takers k (drop m took)) (sym n)) ∙ sym (ap (takers k) (drop_more took (i - 1) d (omega arith)))
+gathers_none k took rest l e =
+    let n : 16 - length rest ≡ 0 = omega (arith, ap length e) in
+    let p = ap (λ (m : ℕ). 2 ^ m) n in
+    record { done = []; whole = sym e ∙ sym (append-nil rest); those = refl; fits = omega arith }
 
-pub takers_none : (k i : ℕ) (took : List ℕ) → length took ≤ i → 0 ≡ takers k (drop i took)
-unfolding takers
-takers_none k i took h = sym (ap (takers k) (drop_all i took h))
+bit_of : (b : Bool) → (from_bool b ≡ cond b 1 0) × (from_bool b ≤ 1)
+bit_of true = (refl, omega arith)
+bit_of false = (refl, omega arith)
 
--- in one bit more
-pub bit_more : (i bit set : ℕ) → 1 ≤ i → i ≤ 16 → bit ≤ 1 → set < 2 ^ (16 - i) → bit + 2 * set < 2 ^ (16 - (i - 1))
-bit_more i bit set some few small h =
-    let e : 16 - (i - 1) ≡ suc (16 - i) = omega arith in
-    let p = ap (λ (n : ℕ). 2 ^ n) e ∙ pow-suc 2 (16 - i) in
-    omega arith
+-- one station more, and room for it
+module _ (k t set : ℕ) (took rest after : List ℕ) (full : length took ≡ 16) (e : rest ≡ after ++ (t ∷ [])) (g : Gathers k took rest set) where
+  pub gathers_room : set < 32768
+  gathers_room =
+      let long = ap length e ∙ length-append after (t ∷ []) in
+      let p : 2 ^ (16 - length rest) ≤ 2 ^ 15 = pow_mono {i = 16 - length rest} {j = 15} (omega arith) in
+      omega (arith, g.fits)
+
+  pub gathers_more : (bit : ℕ) → bit ≡ from_bool (leb k t) → Gathers k took after (bit + 2 * set)
+  unfolding takers
+  gathers_more bit b =
+      let one = bit_of (leb k t) in
+      let long = ap length e ∙ length-append after (t ∷ []) in
+      let all = ap length g.whole ∙ length-append rest g.done in
+      let n : 16 - length after ≡ suc (16 - length rest) = omega arith in
+      let p = ap (λ (m : ℕ). 2 ^ m) n ∙ pow-suc 2 (16 - length rest) in
+      record {
+        done = t ∷ g.done;
+        whole = g.whole ∙ ap (λ (r : List ℕ). r ++ g.done) e ∙ append_assoc after (t ∷ []) g.done;
+        those = ap (λ (s : ℕ). bit + 2 * s) g.those ∙ ap (λ (c : ℕ). c + 2 * takers k g.done) (b ∙ one.0);
+        fits = omega (arith, one.1, g.fits);
+      }
+
+pub gathers_all : (k set : ℕ) (took rest : List ℕ) → length rest ≡ 0 → Gathers k took rest set → set ≡ takers k took
+gathers_all k set took rest none g = g.those ∙ ap (takers k) (sym (g.whole ∙ ap (λ (r : List ℕ). r ++ g.done) (nil_from_length rest none)))

@@ -3,18 +3,14 @@ ghost use Rattle.std.specs.Prelude.{◌≡◌, ℕ, ◌<◌, ◌≤◌, true, fa
 ghost use Rattle.quorum.specs.Tally.{counts, most_took, nobody, noted, raised, takers};
 
 use crate::sets::is_most;
+use std::cmp::Ordering;
 
-// The ballot that the counts are for, and the most that each station said it took of it.
-#[derive(Clone, Copy)]
+// The ballot that the counts are for, and the most that each station said it took of it: a count for each of the
+// sixteen there can be, in fixed memory.
+#[derive(Clone, Copy, PartialEq, Eq, Debug)]
 pub struct Tally {
     pub ballot: u32,
     pub took: [u16; 16],
-}
-
-fn bit(flag: bool) -> u16
-    ensures { result ≡ (if flag then 1 else 0) }
-{
-    if flag { 1 } else { 0 }
 }
 
 impl Tally {
@@ -29,27 +25,25 @@ impl Tally {
     }
 
     // A station said that it took so many: the highest that it said counts.
-    fn raise(self, station: u8, count: u16) -> Tally
+    fn raise(mut self, station: u8, count: u16) -> Tally
         ensures { result ≡ counts self.ballot (raised station count self.took) }
     {
-        let mut next = self;
+        // By index: an array's `get_mut` says nothing of what the elements then are.
         if station < 16 {
             let i = usize::from(station);
-            next.took[i] = self.took[i].max(count);
+            self.took[i] = self.took[i].max(count);
         }
-        next
+        self
     }
 
     // A station said that it took so many of a ballot. A higher ballot starts the counts anew, a lower one doesn't count.
     pub fn note(self, ballot: u32, station: u8, count: u16) -> Tally
         ensures { result ≡ noted ballot station count self }
     {
-        if ballot < self.ballot {
-            self
-        } else if ballot > self.ballot {
-            Tally::new(ballot).raise(station, count)
-        } else {
-            self.raise(station, count)
+        match ballot.cmp(&self.ballot) {
+            Ordering::Less => self,
+            Ordering::Equal => self.raise(station, count),
+            Ordering::Greater => Tally::new(ballot).raise(station, count),
         }
     }
 
@@ -58,8 +52,8 @@ impl Tally {
         ensures { result ≡ takers count self.took }
     {
         let mut set = 0;
-        for i in (0..16).rev() {
-            set = bit(count <= self.took[i]) + 2 * set;
+        for took in self.took.iter().rev() {
+            set = u16::from(count <= *took) + 2 * set;
         }
         set
     }
@@ -77,13 +71,9 @@ impl Tally {
         ensures taken { 0 < result → most_took members result self ≡ true }
         ensures largest { (k : ℕ) → result < k → k ≤ len → most_took members k self ≡ false }
     {
-        let mut count = len;
-        while count > 0 {
-            if self.most_took(members, count) {
-                return count;
-            }
-            count -= 1;
-        }
-        count
+        (1..=len)
+            .rev()
+            .find(|&count| self.most_took(members, count))
+            .unwrap_or(0)
     }
 }

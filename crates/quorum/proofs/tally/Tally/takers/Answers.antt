@@ -1,12 +1,18 @@
-use Rattle.quorum.proofs.Takers.{bit_more, takers_more, takers_none}
+use Rattle.quorum.proofs.Takers.{gathers_all, gathers_more, gathers_none, gathers_room}
 use Rattle.quorum.proofs.tally.Tally.takers.Goals as goal
 use Rattle.std.proofs.Common.{arith, rules}
 
-pub loop-i-init : goal.loop-i-init
-loop-i-init c = (takers_none c.args.count 16 c.args.self.took (search rules), omega arith)
+pub loop-took-init : goal.loop-took-init
+loop-took-init c = gathers_none c.args.count c.args.self.took _ (search rules) (search rules)
 
-pub loop-i-preserved : goal.loop-i-preserved
-loop-i-preserved c = (
-  takers_more c.args.count c.loop-i.i c.bit.result c.loop-i.set c.args.self.took _ (search rules) (search rules) c.bit.ensures c.loop-i.invariant.0,
-  bit_more c.loop-i.i c.bit.result c.loop-i.set (search rules) (search rules) (search rules) c.loop-i.invariant.1,
-)
+pub overflow_mul-set : goal.overflow_mul-set
+overflow_mul-set c = let room = gathers_room c.args.count c.in-Some.took.now c.loop-took.set c.args.self.took _ _ (search rules) c.in-Some.ensures.steps c.loop-took.invariant in omega arith
+
+pub overflow_add-set : goal.overflow_add-set
+overflow_add-set c = let room = gathers_room c.args.count c.in-Some.took.now c.loop-took.set c.args.self.took _ _ (search rules) c.in-Some.ensures.steps c.loop-took.invariant in search rules
+
+pub loop-took-preserved : goal.loop-took-preserved
+loop-took-preserved c = gathers_more c.args.count c.in-Some.took.now c.loop-took.set c.args.self.took _ _ (search rules) c.in-Some.ensures.steps c.loop-took.invariant c.from.result c.from.ensures
+
+pub returns : goal.returns
+returns c = gathers_all c.args.count c.loop-took.set c.args.self.took _ c.in-None.ensures.steps.0 c.loop-took.invariant

@@ -1,7 +1,7 @@
-use Rattle.std.proofs.Common.{◌≡◌, ◌-◌, ◌^◌, ◌<◌, drop}
+use Rattle.std.specs.Iterator.Adapters.{rev_source}
+use Rattle.std.specs.Slice.Iter.{iter_rest}
+use Rattle.quorum.proofs.Takers.{Gathers}
 use Rattle.quorum.proofs.tally.Tally.takers.Given as goal
-use Rattle.quorum.specs.Tally.{takers}
 
--- those from station i on, in as many bits
-abbrev pub invariant-loop-i : goal.invariant-loop-i
-invariant-loop-i l = (l.set ≡ takers l.count (drop l.i l.self.took)) × (l.set < 2 ^ (16 - l.i))
+abbrev pub invariant-loop-took : goal.invariant-loop-took
+invariant-loop-took l = Gathers l.count l.fn.self.took (iter_rest (rev_source l.took-iterator)) l.set
