@@ -3,8 +3,7 @@
 
 ghost use Rattle.cases.specs.Cases.{Cases};
 
-pub fn cases_come_out() -> u8
+#[tactic(auto, using(crate::proofs::Worked::cases))]
+pub fn cases_come_out()
     ensures { Cases }
-{
-    0
-}
+{}

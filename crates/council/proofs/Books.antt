@@ -42,8 +42,8 @@ pub record Split (es : List Entry) (before : List Request) (r : Request) : Type 
 
 split_at : (es : List Entry) (before : List Request) (r : Request) (after : List Request) → requests_in es ≡ before ++ (r ∷ after) → Split es before r
 unfolding requests_in
-split_at [] [] r after e = let z : ◌≡◌ {A = ℕ} 0 1 = cc in absurd (omega arith)
-split_at [] (b ∷ before) r after e = let z : ◌≡◌ {A = ℕ} 0 1 = cc in absurd (omega arith)
+split_at [] [] r after e = cc
+split_at [] (b ∷ before) r after e = cc
 split_at (Call q ∷ es) [] r after e = let i : q ≡ r = cc in record { front = []; back = es; is = ap (λ (x : Request). Call x ∷ es) i; requests = refl }
 split_at (Call q ∷ es) (b ∷ before) r after e =
     let i : q ≡ b = cc in

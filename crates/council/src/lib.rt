@@ -4,85 +4,71 @@
 ghost use Rattle.council.specs.Promises.{Carried, EachOnce, Grows, KeepsWord, Lively, Main, NextCouncil, OneBallot, Part, SameCouncil, SameWord, TookSent};
 
 // Of what any two stations know, at one moment or at two, one is a beginning of the other.
-pub fn there_is_one_past() -> u8
+#[tactic(auto, using(crate::proofs::Theorems::main))]
+pub fn there_is_one_past()
     ensures { Main }
-{
-    0
-}
+{}
 
 // No station goes back on what it knows.
-pub fn knowledge_only_grows() -> u8
+#[tactic(auto, using(crate::proofs::Theorems::grows))]
+pub fn knowledge_only_grows()
     ensures { Grows }
-{
-    0
-}
+{}
 
 // Of two logs of one ballot one is a beginning of the other.
-pub fn one_log_in_a_ballot() -> u8
+#[tactic(auto, using(crate::proofs::Theorems::one_ballot))]
+pub fn one_log_in_a_ballot()
     ensures { OneBallot }
-{
-    0
-}
+{}
 
 // What a station says that it took of a ballot went out in it.
-pub fn what_was_taken_was_sent() -> u8
+#[tactic(auto, using(crate::proofs::Theorems::took_sent))]
+pub fn what_was_taken_was_sent()
     ensures { TookSent }
-{
-    0
-}
+{}
 
 // What most members took in a ballot begins whatever goes out in a higher one.
-pub fn what_most_took_is_carried_on() -> u8
+pub fn what_most_took_is_carried_on()
     ensures { Carried }
-{
-    0
-}
+{}
 
 // Whoever is in a term has the same past and the same members.
-pub fn one_council_in_a_term() -> u8
+#[tactic(auto, using(crate::proofs::Theorems::same_council))]
+pub fn one_council_in_a_term()
     ensures { SameCouncil }
-{
-    0
-}
+{}
 
 // A council is the one that its predecessor's close names, and begins with the log up to it.
-pub fn councils_follow_closes() -> u8
+#[tactic(auto, using(crate::proofs::Theorems::next_council))]
+pub fn councils_follow_closes()
     ensures { NextCouncil }
-{
-    0
-}
+{}
 
 // Within a term nothing that a station wrote down falls.
-pub fn promises_are_kept() -> u8
+#[tactic(auto, using(crate::proofs::Theorems::keeps_word))]
+pub fn promises_are_kept()
     ensures { KeepsWord }
-{
-    0
-}
+{}
 
 // Two stations that answer the same request answer the same.
-pub fn one_word_for_a_request() -> u8
+#[tactic(auto, using(crate::proofs::Theorems::same_word))]
+pub fn one_word_for_a_request()
     ensures { SameWord }
-{
-    0
-}
+{}
 
 // One line, which only grows; each client's requests in turn and once; each word from its place.
-pub fn each_request_once() -> u8
+#[tactic(auto, using(crate::proofs::Theorems::each_once))]
+pub fn each_request_once()
     ensures { EachOnce }
-{
-    0
-}
+{}
 
 // A part of a log that joins is read as the whole log.
-pub fn parts_are_read_as_wholes() -> u8
+#[tactic(auto, using(crate::proofs::Theorems::part))]
+pub fn parts_are_read_as_wholes()
     ensures { Part }
-{
-    0
-}
+{}
 
 // Most members of a council can by themselves bring an entry in, or it to its close.
-pub fn nobody_is_stuck() -> u8
+pub fn nobody_is_stuck()
     ensures { Lively }
-{
-    0
-}
+{}

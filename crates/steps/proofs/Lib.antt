@@ -1,3 +1,2 @@
 mod Overlap
 mod Doing
-mod Laying

@@ -1,5 +1,5 @@
 -- Taking, deciding and councils on lent memory: what has to fit, and what stands in it afterwards.
-use Rattle.std.specs.Prelude.{ℕ, ◌+◌, Bool, cond, ◌&&◌, ◌||◌, List, [], length, Ok, Err, Result, nat_le}
+use Rattle.std.specs.Prelude.{ℕ, ◌+◌, Bool, cond, ◌&&◌, ◌||◌, List, length, Ok, Err, Result, nat_le}
 use Rattle.council.specs.Log.{requests_in}
 use Rattle.entry.specs.declared.entry.Entry.{Entry}
 use Rattle.entry.specs.declared.entry.Entry.TheVariants.{Call, Close}
@@ -9,7 +9,7 @@ use Rattle.steps.specs.Steps.{answers, fresh}
 use Rattle.steps.specs.declared.head.Head.{Head}
 use Rattle.steps.specs.declared.refusal.Refusal.{Refusal}
 use Rattle.steps.specs.declared.refusal.Refusal.TheVariants.{Memory}
-use Rattle.store.specs.Store.{Store, applied, played, tables, whole}
+use Rattle.store.specs.Store.{Store, applied, played, whole}
 
 -- a log of `places` has room for n entries from place p on, and so has the longest log
 abbrev pub fits_part : ℕ → ℕ → ℕ → Head → Bool
@@ -32,8 +32,8 @@ live_after (Ok u) log h live = played live (requests_in (fresh h u log))
 live_after (Err x) log h live = live
 
 -- the word for a client's last request, from tables that have a place for the client
-abbrev pub answered : ℕ → ℕ → List ℕ → List ℕ → Result ℕ Refusal
-answered c n lasts words = cond (nat_le (length lasts) c || nat_le (length words) c) (Err Memory) (answers c n (tables [] lasts words))
+abbrev pub answered : ℕ → ℕ → Store → Result ℕ Refusal
+answered c n s = cond (nat_le (length s.lasts) c || nat_le (length s.words) c) (Err Memory) (answers c n s)
 
 abbrev pub closed_in : List Entry → Store → Store → Head → Result Head Refusal
 closed_in log base live h = fitting (fits_log h (length log) && (whole base && whole live)) (close_head log h)

@@ -20,7 +20,7 @@ same_ask (Look k) (Look l) = k == l
 abbrev pub same_request : Request → Request → Bool
 same_request q r = q.client == r.client && (q.number == r.number && same_ask q.ask r.ask)
 
-unfoldable pub same_entry : Entry → Entry → Bool
+abbrev pub same_entry : Entry → Entry → Bool
 same_entry (Call q) (Call r) = same_request q r
 same_entry (Call q) (Close s) = false
 same_entry (Close s) (Call q) = false

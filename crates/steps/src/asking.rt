@@ -3,7 +3,7 @@ ghost use Rattle.std.specs.Prelude.{◌≡◌, ◌≤◌, not, ◌||◌, length,
 ghost use Rattle.steps.specs.Heads.{ask_head, counts_from, counts_itself, gave_head, give_head, heard_head, is_better};
 ghost use Rattle.steps.specs.Memory.{best_given, best_heard, fits_copy, fits_heard, given_in, heard_in, only_done};
 
-use crate::facts::copy_front;
+use crate::facts::{lay, only};
 use crate::head::Head;
 use crate::refusal::Refusal;
 use entry::Entry;
@@ -21,9 +21,7 @@ impl Head {
     pub fn ask(self, ballot: u32) -> Result<Head, Refusal>
         ensures { result ≡ ask_head ballot self }
     {
-        if !self.is_in() {
-            return Err(Refusal::NoMember);
-        }
+        self.in_council()?;
         if ballot % 16 != u32::from(self.me) || ballot <= self.promised {
             return Err(Refusal::NotOwn);
         }
@@ -42,7 +40,7 @@ impl Head {
     fn is_better(self, had: u32, len: u16) -> bool
         ensures { result ≡ is_better had len self }
     {
-        self.heard == 0 || self.had < had || (self.had == had && self.best < len)
+        self.heard == 0 || (self.had, self.best) < (had, len)
     }
 
     // A promise, counted or not.
@@ -66,15 +64,13 @@ impl Head {
     }
 
     // Takes part in no lower ballot any more, and ends asking for and leading others.
-    fn gave(self, ballot: u32) -> Head
+    pub(crate) fn gave(self, ballot: u32) -> Head
         ensures { result ≡ gave_head ballot self }
     {
-        let asking = if self.asking == ballot { ballot } else { 0 };
-        let leading = if self.leading == ballot { ballot } else { 0 };
         Head {
             promised: ballot,
-            asking,
-            leading,
+            asking: only(ballot, self.asking),
+            leading: only(ballot, self.leading),
             ..self
         }
     }
@@ -106,7 +102,7 @@ impl Head {
         ensures { best.new ≡ best_given ballot log.now best.old self }
     {
         if self.counts_itself(ballot) && self.is_better(self.ballot, self.len) {
-            copy_front(&log[0..usize::from(self.len)], best);
+            lay(0, &log[..usize::from(self.len)], best);
         }
     }
 
@@ -114,12 +110,8 @@ impl Head {
     fn give(self, term: u16, ballot: u32) -> Result<Head, Refusal>
         ensures { result ≡ give_head term ballot self }
     {
-        if term != self.term {
-            return Err(Refusal::OtherTerm);
-        }
-        if !self.is_in() {
-            return Err(Refusal::NoMember);
-        }
+        self.in_term(term)?;
+        self.in_council()?;
         if ballot < self.promised || ballot <= self.ballot {
             return Err(Refusal::BelowPromise);
         }
@@ -170,16 +162,14 @@ impl Head {
         if !fits_heard(entries.len(), best.len()) {
             return Err(Refusal::Memory);
         }
-        if term != self.term {
-            return Err(Refusal::OtherTerm);
-        }
+        self.in_term(term)?;
         if !self.awaits(ballot) {
             return Err(Refusal::NotPromised);
         }
         let len = entries.len() as u16;
         let counts = self.counts_from(from);
         if counts && self.is_better(had, len) {
-            copy_front(entries, best);
+            lay(0, entries, best);
         }
         Ok(self.heard_from(counts, from, had, len))
     }

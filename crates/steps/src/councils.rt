@@ -1,41 +1,27 @@
 // Entering a council, closing one, and what a stop leaves.
-ghost use Rattle.council.specs.Log.{closes_to};
 ghost use Rattle.steps.specs.Calls.{begun_in, closed_in, store_after};
-ghost use Rattle.steps.specs.Heads.{council_of, entered_head, stopped_head};
-ghost use Rattle.store.specs.Store.{lent, whole};
+ghost use Rattle.steps.specs.Heads.{entered_head, stopped_head};
+ghost use Rattle.store.specs.Store.{whole};
+ghost use Rattle.store.specs.Tables.{SameLoans, held, held_mut};
 ghost use Rattle.std.specs.Prelude.{◌≡◌, true};
 
 use crate::head::Head;
 use crate::refusal::Refusal;
 use entry::Entry;
 use quorum::Tally;
-use store::is_whole;
+use store::{Tables, TablesMut};
 
 // Makes one store like another.
-fn copy_store(
-    shelves: &[u32],
-    lasts: &[u32],
-    words: &[u32],
-    new_shelves: &mut [u32],
-    new_lasts: &mut [u32],
-    new_words: &mut [u32],
-)
-    requires { (whole (lent shelves.now lasts.now words.now) ≡ true) × (whole (lent new_shelves.old new_lasts.old new_words.old) ≡ true) }
-    ensures { lent new_shelves.new new_lasts.new new_words.new ≡ lent shelves.now lasts.now words.now }
+// Both `requires` stay: what a `&mut` beside a ghost field refers to can't be lent yet, and whole tables for `from` alone read no plainer.
+fn copy_store(from: Tables<'_>, to: &mut TablesMut<'_>)
+    requires from { whole (held from) ≡ true }
+    requires to { whole (held_mut to.old) ≡ true }
+    ensures store { held_mut to.new ≡ held from.entry }
+    ensures loans { SameLoans to.old to.new }
 {
-    new_shelves.copy_from_slice(shelves);
-    new_lasts.copy_from_slice(lasts);
-    new_words.copy_from_slice(words);
-}
-
-// The council that an entry closes to, none of the stations if it is no close.
-fn next_members(entry: Entry) -> u16
-    ensures { result ≡ council_of (closes_to entry) }
-{
-    match entry {
-        Entry::Call(_) => 0,
-        Entry::Close { members } => members,
-    }
+    to.shelves.copy_from_slice(from.shelves);
+    to.lasts.copy_from_slice(from.lasts);
+    to.words.copy_from_slice(from.words);
 }
 
 impl Head {
@@ -80,31 +66,28 @@ impl Head {
     pub fn close(
         self,
         log: &[Entry],
-        base_shelves: &mut [u32],
-        base_lasts: &mut [u32],
-        base_words: &mut [u32],
-        shelves: &[u32],
-        lasts: &[u32],
-        words: &[u32],
+        base: &mut TablesMut<'_>,
+        live: Tables<'_>,
     ) -> Result<Head, Refusal>
-        ensures value { result ≡ closed_in log.now (lent base_shelves.old base_lasts.old base_words.old) (lent shelves.now lasts.now words.now) self }
-        ensures base { lent base_shelves.new base_lasts.new base_words.new ≡ store_after result (lent shelves.now lasts.now words.now) (lent base_shelves.old base_lasts.old base_words.old) }
+        ensures value { result ≡ closed_in log.now (held_mut base.old) (held live.entry) self }
+        ensures base { held_mut base.new ≡ store_after result (held live.entry) (held_mut base.old) }
+        ensures loans { SameLoans base.old base.new }
     {
-        if !self.fits_log(log.len())
-            || !is_whole(base_shelves, base_lasts, base_words)
-            || !is_whole(shelves, lasts, words)
-        {
+        if !self.fits_log(log.len()) || !base.is_whole() || !live.is_whole() {
             return Err(Refusal::Memory);
         }
-        if self.sure != self.len || !self.ends_closed(log) || self.term == u16::MAX {
+        if self.sure != self.len || self.len == 0 {
             return Err(Refusal::NotClosed);
         }
-        let Some(before) = self.before.checked_add(u32::from(self.len)) else {
+        let Entry::Close { members } = self.last_of(log) else {
             return Err(Refusal::NotClosed);
         };
-        let members = next_members(self.last_of(log));
-        copy_store(shelves, lasts, words, base_shelves, base_lasts, base_words);
-        Ok(Head::enter(self.me, self.term + 1, members, before))
+        let before = self.before.checked_add(u32::from(self.len));
+        let (Some(term), Some(before)) = (self.term.checked_add(1), before) else {
+            return Err(Refusal::NotClosed);
+        };
+        copy_store(live, base);
+        Ok(Head::enter(self.me, term, members, before))
     }
 
     // Enters a later council, with the store before it: both stores are that one. Refused, it changes nothing.
@@ -113,38 +96,24 @@ impl Head {
         term: u16,
         members: u16,
         before: u32,
-        page_shelves: &[u32],
-        page_lasts: &[u32],
-        page_words: &[u32],
-        base_shelves: &mut [u32],
-        base_lasts: &mut [u32],
-        base_words: &mut [u32],
-        shelves: &mut [u32],
-        lasts: &mut [u32],
-        words: &mut [u32],
+        page: Tables<'_>,
+        base: &mut TablesMut<'_>,
+        live: &mut TablesMut<'_>,
     ) -> Result<Head, Refusal>
-        ensures value { result ≡ begun_in term members before (lent page_shelves.now page_lasts.now page_words.now) (lent base_shelves.old base_lasts.old base_words.old) (lent shelves.old lasts.old words.old) self }
-        ensures base { lent base_shelves.new base_lasts.new base_words.new ≡ store_after result (lent page_shelves.now page_lasts.now page_words.now) (lent base_shelves.old base_lasts.old base_words.old) }
-        ensures live { lent shelves.new lasts.new words.new ≡ store_after result (lent page_shelves.now page_lasts.now page_words.now) (lent shelves.old lasts.old words.old) }
+        ensures value { result ≡ begun_in term members before (held page.entry) (held_mut base.old) (held_mut live.old) self }
+        ensures base { held_mut base.new ≡ store_after result (held page.entry) (held_mut base.old) }
+        ensures live { held_mut live.new ≡ store_after result (held page.entry) (held_mut live.old) }
+        ensures base_loans { SameLoans base.old base.new }
+        ensures live_loans { SameLoans live.old live.new }
     {
-        if !is_whole(page_shelves, page_lasts, page_words)
-            || !is_whole(base_shelves, base_lasts, base_words)
-            || !is_whole(shelves, lasts, words)
-        {
+        if !page.is_whole() || !base.is_whole() || !live.is_whole() {
             return Err(Refusal::Memory);
         }
         if term <= self.term {
             return Err(Refusal::OtherTerm);
         }
-        copy_store(
-            page_shelves,
-            page_lasts,
-            page_words,
-            base_shelves,
-            base_lasts,
-            base_words,
-        );
-        copy_store(page_shelves, page_lasts, page_words, shelves, lasts, words);
+        copy_store(page, base);
+        copy_store(page, live);
         Ok(Head::enter(self.me, term, members, before))
     }
 }

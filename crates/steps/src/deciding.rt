@@ -4,43 +4,44 @@ ghost use Rattle.council.specs.Log.{requests_in};
 ghost use Rattle.steps.specs.Calls.{acted, answered, decided_in, live_after};
 ghost use Rattle.steps.specs.Heads.{decide_head, sure_head};
 ghost use Rattle.steps.specs.declared.refusal.Refusal.TheVariants.{NotTaken};
-ghost use Rattle.store.specs.Store.{lent, played};
+ghost use Rattle.store.specs.Store.{played};
+ghost use Rattle.store.specs.Tables.{SameLoans, held, held_mut};
 
 use crate::head::Head;
 use crate::refusal::Refusal;
 use entry::Entry;
-use store::is_whole;
+use store::{Tables, TablesMut};
 
 // Does one entry on a store: a request that is refused changes nothing, nor does a close.
-fn act(entry: Entry, shelves: &mut [u32], lasts: &mut [u32], words: &mut [u32])
-    ensures { lent shelves.new lasts.new words.new ≡ acted entry (lent shelves.old lasts.old words.old) }
+fn act(entry: Entry, store: &mut TablesMut<'_>)
+    ensures store { held_mut store.new ≡ acted entry (held_mut store.old) }
+    ensures loans { SameLoans store.old store.new }
 {
     if let Entry::Call(request) = entry {
-        let _ = request.apply(shelves, lasts, words);
+        let _ = request.apply(store);
     }
 }
 
 // Does the requests of entries on a store, one after the other.
-pub fn play(entries: &[Entry], shelves: &mut [u32], lasts: &mut [u32], words: &mut [u32])
-    ensures { lent shelves.new lasts.new words.new ≡ played (lent shelves.old lasts.old words.old) (requests_in entries.now) }
+pub fn play(entries: &[Entry], store: &mut TablesMut<'_>)
+    ensures store { held_mut store.new ≡ played (held_mut store.old) (requests_in entries.now) }
+    ensures loans { SameLoans store.old store.new }
 {
-    let mut rest = entries;
-    while let Some((entry, after)) = rest.split_first() {
-        act(*entry, shelves, lasts, words);
-        rest = after;
+    for entry in entries {
+        act(*entry, store);
     }
 }
 
 // The word for a client's last request.
-pub fn answer(client: u8, number: u32, lasts: &[u32], words: &[u32]) -> Result<u32, Refusal>
-    ensures { result ≡ answered client number lasts.now words.now }
+pub fn answer(client: u8, number: u32, store: Tables<'_>) -> Result<u32, Refusal>
+    ensures { result ≡ answered client number (held store.entry) }
 {
     let place = usize::from(client);
-    if lasts.len() <= place || words.len() <= place {
+    let (Some(last), Some(word)) = (store.lasts.get(place), store.words.get(place)) else {
         return Err(Refusal::Memory);
-    }
-    if number != 0 && lasts[place] == number {
-        Ok(words[place])
+    };
+    if number != 0 && *last == number {
+        Ok(*word)
     } else {
         Err(Refusal::NotLast)
     }
@@ -56,18 +57,12 @@ impl Head {
 
     // Decides the first entries, which most took, and does on the store those that weren't sure before.
     // Refused, it changes nothing.
-    pub fn decide(
-        self,
-        k: u16,
-        log: &[Entry],
-        shelves: &mut [u32],
-        lasts: &mut [u32],
-        words: &mut [u32],
-    ) -> Result<Head, Refusal>
-        ensures value { result ≡ decided_in k log.now (lent shelves.old lasts.old words.old) self }
-        ensures store { lent shelves.new lasts.new words.new ≡ live_after result log.now self (lent shelves.old lasts.old words.old) }
+    pub fn decide(self, k: u16, log: &[Entry], store: &mut TablesMut<'_>) -> Result<Head, Refusal>
+        ensures value { result ≡ decided_in k log.now (held_mut store.old) self }
+        ensures store { held_mut store.new ≡ live_after result log.now self (held_mut store.old) }
+        ensures loans { SameLoans store.old store.new }
     {
-        if !self.fits_log(log.len()) || !is_whole(shelves, lasts, words) {
+        if !self.fits_log(log.len()) || !store.is_whole() {
             return Err(Refusal::Memory);
         }
         if !self.counts_log() || !self.tally.most_took(self.members, k) || self.len < k {
@@ -75,11 +70,11 @@ impl Head {
         }
         let sure = self.sure.max(k);
         let fresh = &log[usize::from(self.sure)..usize::from(sure)];
-        play(fresh, shelves, lasts, words);
+        play(fresh, store);
         Ok(Head { sure, ..self })
     }
 
-    // The largest number of entries that may be decided, 0 if there is none.
+    // The largest number of entries that may be decided. None is a number too: 0.
     pub fn largest(self) -> u16
         ensures most { 0 < result → decide_head result self ≡ Ok (sure_head result self) }
         ensures none { (k : ℕ) → result < k → decide_head k self ≡ Err NotTaken }

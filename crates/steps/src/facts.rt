@@ -1,50 +1,69 @@
 // What several steps look at: the head, and the memory that is lent to it.
-ghost use Rattle.std.specs.Prelude.{◌≡◌, ◌≤◌, length, slice_index_or};
+ghost use Rattle.std.specs.Prelude.{◌≡◌, ◌+◌, ◌≤◌, if◌then◌else◌, length, Ok, Err, ◌==◌, slice_index_or};
 ghost use Rattle.council.specs.Log.{is_close};
 ghost use Rattle.entries.specs.Entries.{laid};
 ghost use Rattle.entry.specs.declared.entry.Entry.TheVariants.{Close};
 ghost use Rattle.steps.specs.Heads.{ends_closed, last_of, member};
 ghost use Rattle.steps.specs.Memory.{fits_log};
+ghost use Rattle.steps.specs.declared.refusal.Refusal.TheVariants.{NoMember, OtherTerm};
 
 use crate::head::Head;
+use crate::refusal::Refusal;
 use entry::Entry;
 use quorum::is_member;
 
-// The entry at a place of a log; behind its end, as a close to nobody.
+// The entry at a place of a log; behind its end, as a close to nobody: that is how the rules compare logs.
 pub fn entry_at(log: &[Entry], place: usize) -> Entry
     ensures { result ≡ slice_index_or log.now place (Close 0) }
 {
-    if place < log.len() {
-        log[place]
-    } else {
-        Entry::Close { members: 0 }
-    }
+    log.get(place)
+        .copied()
+        .unwrap_or(Entry::Close { members: 0 })
 }
 
 // Whether an entry is a close.
 pub fn is_close(entry: Entry) -> bool
     ensures { result ≡ is_close entry }
 {
-    match entry {
-        Entry::Call(_) => false,
-        Entry::Close { .. } => true,
-    }
+    matches!(entry, Entry::Close { .. })
 }
 
-// Copies entries over the first ones of a log.
-pub fn copy_front(entries: &[Entry], log: &mut [Entry])
-    requires { length entries.now ≤ length log.old }
-    ensures { log.new ≡ laid 0 entries.now log.old }
+// Lays entries into a log from a place on.
+pub fn lay(place: usize, entries: &[Entry], log: &mut [Entry])
+    requires { place + length entries.now ≤ length log.old }
+    ensures { log.new ≡ laid place entries.now log.old }
 {
-    log[0..entries.len()].copy_from_slice(entries);
+    log[place..place + entries.len()].copy_from_slice(entries);
+}
+
+// The ballot that is asked for or led, if it is this one, or none: 0.
+pub fn only(ballot: u32, held: u32) -> u32
+    ensures { result ≡ (if held == ballot then held else 0) }
+{
+    if held == ballot { held } else { 0 }
 }
 
 impl Head {
-    // Whether the station is a member of its council.
-    pub fn is_in(self) -> bool
-        ensures { result ≡ member self }
+    // Refuses a message of another term.
+    pub fn in_term(self, term: u16) -> Result<(), Refusal>
+        ensures { result ≡ (if term == self.term then Ok tt else Err OtherTerm) }
     {
-        is_member(self.members, self.me)
+        if term == self.term {
+            Ok(())
+        } else {
+            Err(Refusal::OtherTerm)
+        }
+    }
+
+    // Refuses whoever is no member of its council.
+    pub fn in_council(self) -> Result<(), Refusal>
+        ensures { result ≡ (if member self then Ok tt else Err NoMember) }
+    {
+        if is_member(self.members, self.me) {
+            Ok(())
+        } else {
+            Err(Refusal::NoMember)
+        }
     }
 
     // Whether a log of so many places has the station's entries.

@@ -3,7 +3,7 @@ ghost use Rattle.steps.specs.Heads.{has_place, led_head};
 ghost use Rattle.steps.specs.Memory.{copied, fits_best, fits_more, led_in, only_done, proposed_in};
 ghost use Rattle.std.specs.Prelude.{◌≡◌, slice_set};
 
-use crate::facts::copy_front;
+use crate::facts::lay;
 use crate::head::Head;
 use crate::refusal::Refusal;
 use entries::LOG;
@@ -62,17 +62,15 @@ impl Head {
         if !self.fits_best(log.len(), best.len()) {
             return Err(Refusal::Memory);
         }
-        if !self.is_in() {
-            return Err(Refusal::NoMember);
-        }
+        self.in_council()?;
         if self.asking == 0 || self.promised != self.asking || !is_most(self.members, self.heard) {
             return Err(Refusal::NotPromised);
         }
-        let entries = &best[0..usize::from(self.best)];
+        let entries = &best[..usize::from(self.best)];
         if !self.keeps_sure(0, entries, log) {
             return Err(Refusal::NotPromised);
         }
-        copy_front(entries, log);
+        lay(0, entries, log);
         Ok(self.led())
     }
 
@@ -84,9 +82,7 @@ impl Head {
         if !self.fits_more(log.len()) {
             return Err(Refusal::Memory);
         }
-        if !self.is_in() {
-            return Err(Refusal::NoMember);
-        }
+        self.in_council()?;
         if self.leading == 0 || self.promised != self.leading {
             return Err(Refusal::NotLeading);
         }

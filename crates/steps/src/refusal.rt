@@ -30,11 +30,12 @@ pub enum Refusal {
     NotLast,
 }
 
-impl Refusal {
-    pub fn number(self) -> u8
-        ensures { result ≡ number_of self }
-    {
-        match self {
+// Its number in the table of refusals.
+impl From<Refusal> for u8 {
+    ghost from_gives = { λ refusal number. number ≡ number_of refusal };
+
+    fn from(refusal: Refusal) -> u8 {
+        match refusal {
             Refusal::Memory => 1,
             Refusal::OtherTerm => 3,
             Refusal::NoMember => 4,

@@ -1,55 +1,26 @@
-// Entries that are the same, and whether entries that come keep what is sure.
+// Whether entries that come keep what is sure.
 ghost use Rattle.std.specs.Prelude.{◌≡◌, ◌+◌, slice_index_or};
 ghost use Rattle.entry.specs.declared.entry.Entry.TheVariants.{Close};
 ghost use Rattle.steps.specs.Heads.{agree, keeps_sure};
-ghost use Rattle.steps.specs.Same.{same_ask, same_entry, same_request};
+ghost use Rattle.steps.specs.Same.{same_entry};
 
 use crate::facts::entry_at;
 use crate::head::Head;
 use entry::Entry;
-use store::{Ask, Request};
-
-fn same_ask(a: Ask, b: Ask) -> bool
-    ensures { result ≡ same_ask a b }
-{
-    match (a, b) {
-        (Ask::Put { key: k, value: v }, Ask::Put { key: l, value: w }) => k == l && v == w,
-        (Ask::Take { key: k, amount: v }, Ask::Take { key: l, amount: w }) => k == l && v == w,
-        (Ask::Look { key: k }, Ask::Look { key: l }) => k == l,
-        _ => false,
-    }
-}
-
-fn same_request(a: Request, b: Request) -> bool
-    ensures { result ≡ same_request a b }
-{
-    a.client == b.client && a.number == b.number && same_ask(a.ask, b.ask)
-}
-
-// Whether two entries are the same.
-pub fn same_entry(a: Entry, b: Entry) -> bool
-    ensures { result ≡ same_entry a b }
-{
-    match (a, b) {
-        (Entry::Call(q), Entry::Call(r)) => same_request(q, r),
-        (Entry::Call(_), Entry::Close { .. }) => false,
-        (Entry::Close { .. }, Entry::Call(_)) => false,
-        (Entry::Close { members: s }, Entry::Close { members: t }) => s == t,
-    }
-}
 
 // Whether entry i of some entries is the same as the one of a log that many places on.
 fn same_at(log: &[Entry], place: u16, entries: &[Entry], i: u16) -> bool
     ensures { result ≡ same_entry (slice_index_or log.now (place + i) (Close 0)) (slice_index_or entries.now i (Close 0)) }
 {
     let here = entry_at(log, usize::from(place) + usize::from(i));
-    same_entry(here, entry_at(entries, usize::from(i)))
+    here == entry_at(entries, usize::from(i))
 }
 
 // Whether the first `count` of some entries are the same as those of a log from a place on.
 pub fn agrees(log: &[Entry], place: u16, entries: &[Entry], count: u16) -> bool
     ensures { result ≡ agree count place log.now entries.now }
 {
+    // not `==` of slices: behind its end a log counts as closed to nobody; nor `all`, whose closure would say that of one place only
     for i in 0..count {
         if !same_at(log, place, entries, i) {
             return false;

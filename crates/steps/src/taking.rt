@@ -5,18 +5,11 @@ ghost use Rattle.steps.specs.Calls.{fits_part, taken_in};
 ghost use Rattle.steps.specs.Heads.{count_head, joins, took_head};
 ghost use Rattle.steps.specs.Memory.{only_done};
 
+use crate::facts::lay;
 use crate::head::Head;
 use crate::refusal::Refusal;
 use entries::LOG;
 use entry::Entry;
-
-// Lays entries into a log from a place on.
-fn lay(place: usize, entries: &[Entry], log: &mut [Entry])
-    requires { place + length entries.now ≤ length log.old }
-    ensures { log.new ≡ laid place entries.now log.old }
-{
-    log[place..place + entries.len()].copy_from_slice(entries);
-}
 
 impl Head {
     // Whether a log of so many places has room for `count` entries from a place on.
@@ -44,17 +37,12 @@ impl Head {
     fn took(self, ballot: u32, count: u16) -> Head
         ensures { result ≡ took_head ballot count self }
     {
-        let asking = if self.asking == ballot { ballot } else { 0 };
-        let leading = if self.leading == ballot { ballot } else { 0 };
         let tally = self.tally.note(ballot, self.me, count);
         Head {
-            promised: ballot,
             ballot,
             len: count,
-            asking,
-            leading,
             tally,
-            ..self
+            ..self.gave(ballot)
         }
     }
 
@@ -73,12 +61,8 @@ impl Head {
         if !self.fits_part(place, entries.len(), log.len()) {
             return Err(Refusal::Memory);
         }
-        if term != self.term {
-            return Err(Refusal::OtherTerm);
-        }
-        if !self.is_in() {
-            return Err(Refusal::NoMember);
-        }
+        self.in_term(term)?;
+        self.in_council()?;
         let count = entries.len() as u16;
         if ballot < self.promised || !self.joins(ballot, place, count) {
             return Err(Refusal::NoJoin);
@@ -94,9 +78,7 @@ impl Head {
     pub fn count(self, term: u16, ballot: u32, from: u8, count: u16) -> Result<Head, Refusal>
         ensures { result ≡ count_head term ballot from count self }
     {
-        if term != self.term {
-            return Err(Refusal::OtherTerm);
-        }
+        self.in_term(term)?;
         if ballot < self.tally.ballot {
             return Err(Refusal::NotTaken);
         }

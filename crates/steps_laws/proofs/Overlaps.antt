@@ -33,7 +33,6 @@ request_same q r h =
     λ i. record { client = eqb-true q.client r.client p.0 i; number = eqb-true q.number r.number s.0 i; ask = ask_same q.ask r.ask s.1 i }
 
 pub entry_same : (a b : Entry) → same_entry a b ≡ true → a ≡ b
-unfolding same_entry
 entry_same (Call q) (Call r) h = ap Call (request_same q r h)
 entry_same (Call q) (Close s) h = absurd (false≢true h)
 entry_same (Close s) (Call q) h = absurd (false≢true h)

@@ -1,15 +1,14 @@
-use Rattle.steps.proofs.Doing.{played_more, played_none}
+use Rattle.steps.proofs.Doing.{played_end, played_from}
 use Rattle.steps.proofs.deciding.play.Goals as goal
-use Rattle.store.specs.Store.{tables}
-use Rattle.std.proofs.Common.{◌∙◌, rules}
+use Rattle.store.specs.Tables.{held_mut}
+use Rattle.std.proofs.Common.{sym, ◌∙◌, rules}
 
 pub loop-entry-preserved : goal.loop-entry-preserved
 loop-entry-preserved c =
     let l = c.loop-entry in
-    played_more (tables l.shelves l.lasts l.words) _ l.rest.now c.in-Some.after.now c.in-Some.entry.now (search rules) c.act.ensures ∙ l.invariant
+    record { store = played_from c.args.entries.now l.entry-index (held_mut l.store) _ _ c.loop-entry-test.true c.act.ensures.store ∙ l.invariant.store; loans = search rules }
 
-pub returns : goal.returns
-returns c =
+pub returns-clause-store : goal.returns-clause-store
+returns-clause-store c =
     let l = c.loop-entry in
-    let e = played_none (tables l.shelves l.lasts l.words) l.rest.now (search rules) in
-    search rules
+    sym (played_end c.args.entries.now l.entry-index (held_mut l.store) c.loop-entry-test.false) ∙ l.invariant.store

@@ -1,12 +1,12 @@
 use Rattle.council.specs.Log.{requests_in}
 use Rattle.steps.proofs.deciding.play.Given as goal
-use Rattle.store.specs.Store.{played, tables}
-use Rattle.std.proofs.Common.{◌≡◌, length}
+use Rattle.store.specs.Store.{played}
+use Rattle.store.specs.Tables.{SameLoans, held_mut}
+use Rattle.std.proofs.Common.{◌≡◌, drop}
 
--- what is left to do makes of the tables what all of it makes of those at the start
+-- what is left to do makes of the store what all of it makes of the one at the start
 abbrev pub invariant-loop-entry : goal.invariant-loop-entry
-invariant-loop-entry l =
-    played (tables l.shelves l.lasts l.words) (requests_in l.rest) ≡ played (tables l.initial.shelves l.initial.lasts l.initial.words) (requests_in l.entries)
-
-abbrev pub decreases-loop-entry : goal.decreases-loop-entry
-decreases-loop-entry l = length l.rest
+invariant-loop-entry l = record {
+  store : played (held_mut l.store) (requests_in (drop l.entry-index l.entries)) ≡ played (held_mut l.initial.store) (requests_in l.entries);
+  loans : SameLoans l.initial.store l.store;
+}
