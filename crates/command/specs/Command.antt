@@ -34,6 +34,10 @@ ended line = length (first_word line) == 0
 abbrev pub field_of : ℕ → List ℕ → Result ℕ Fault
 field_of max w = ok_or (number_up_to max w) Malformed
 
+-- the number that is all a line still has
+abbrev pub last_of : List ℕ → Result ℕ Fault
+last_of line = field_of 4294967295 (word 0 line) then λ number. cond (ended (behind 1 line)) (Ok number) (Err Malformed)
+
 -- `put KEY VALUE`, `take KEY AMOUNT` or `look KEY`
 abbrev pub ask_of : List ℕ → Result Ask Fault
 ask_of line =

@@ -1,3 +1,3 @@
 mod Marks
 mod Numbers
-pub mod FirstLine
+pub mod Parts

@@ -1,23 +1,45 @@
--- Where the first mark stands.
-use Rattle.std.proofs.Common.{◌≡◌, ℕ, zero, suc, ◌<◌, eqb, List, [], ◌∷◌, length, get_or, take, drop, refl, ap, ◌∙◌, arith}
-use Rattle.std.proofs.lemmas.Bool.{cond-false, cond-true, eq-eqb, ne_eqb}
-use Rattle.text.specs.Text.{onward, up_to}
+-- Where the first mark stands, and how many spaces stand in front.
+use Rattle.std.proofs.Common.{◌≡◌, ℕ, ◌+◌, Bool, true, false, cond, eqb, ltb, not, List, [], ◌∷◌, Some, None, length, take, drop, one-add, refl, sym, ap, ◌∙◌}
+use Rattle.std.proofs.lemmas.Bool.{ltb-false}
+use Rattle.std.proofs.lemmas.List.{drop-drop, drop_all, take_all}
+use Rattle.std.proofs.lemmas.Option.{cond_some, none-some}
+use Rattle.std.specs.List.{position_or_len, prefix_len}
+use Rattle.text.specs.Text.{beyond, onward, trimmed, up_to}
 
--- none below n
-abbrev pub NoneBelow : ℕ → List ℕ → ℕ → Type 0
-NoneBelow m bs n = (k : ℕ) → k < n → get_or bs k 0 ≡ m → ⊥
+module _ (m : ℕ) where
+  cut : (q : Bool) (b p : ℕ) (bs : List ℕ) → (up_to m bs ≡ take p bs) × (onward m bs ≡ drop p bs) → (cond q [] (b ∷ up_to m bs) ≡ take (cond (not q) (1 + p) 0) (b ∷ bs)) × (cond q (b ∷ bs) (onward m bs) ≡ drop (cond (not q) (1 + p) 0) (b ∷ bs))
+  cut true b p bs h = (refl, refl)
+  cut false b p bs h = rw one-add (ap (λ (x : List ℕ). b ∷ x) h.0, h.1)
 
-pub at_mark : (m : ℕ) (bs : List ℕ) (i : ℕ) → i < length bs → NoneBelow m bs i → get_or bs i 0 ≡ m → (up_to m bs ≡ take i bs) × (onward m bs ≡ drop i bs)
-at_mark m [] i l none h = absurd (omega arith)
-at_mark m (b ∷ bs) zero l none h = (cond-true (eqb b m) [] (b ∷ up_to m bs) (eq-eqb b m h), cond-true (eqb b m) (b ∷ bs) (onward m bs) (eq-eqb b m h))
-at_mark m (b ∷ bs) (suc i) l none h =
-    let e = ne_eqb b m (none 0 (omega arith)) in
-    let later = at_mark m bs i (omega arith) (λ k s. none (suc k) (omega arith)) h in
-    (cond-false (eqb b m) [] (b ∷ up_to m bs) e ∙ ap (λ (x : List ℕ). b ∷ x) later.0, cond-false (eqb b m) (b ∷ bs) (onward m bs) e ∙ later.1)
+  pub cut_at : (bs : List ℕ) → (up_to m bs ≡ take (position_or_len (λ b. eqb b m) bs) bs) × (onward m bs ≡ drop (position_or_len (λ b. eqb b m) bs) bs)
+  cut_at [] = (refl, refl)
+  cut_at (b ∷ bs) = cut (eqb b m) b (position_or_len (λ b. eqb b m) bs) bs (cut_at bs)
 
-pub no_mark : (m : ℕ) (bs : List ℕ) → NoneBelow m bs (length bs) → (up_to m bs ≡ bs) × (onward m bs ≡ [])
-no_mark m [] none = (refl, refl)
-no_mark m (b ∷ bs) none =
-    let e = ne_eqb b m (none 0 (omega arith)) in
-    let later = no_mark m bs (λ k s. none (suc k) (omega arith)) in
-    (cond-false (eqb b m) [] (b ∷ up_to m bs) e ∙ ap (λ (x : List ℕ). b ∷ x) later.0, cond-false (eqb b m) (b ∷ bs) (onward m bs) e ∙ later.1)
+spaces : (q : Bool) (b p : ℕ) (bs : List ℕ) → trimmed bs ≡ drop p bs → cond q (trimmed bs) (b ∷ bs) ≡ drop (cond q (1 + p) 0) (b ∷ bs)
+spaces true b p bs h = rw one-add h
+spaces false b p bs h = refl
+
+pub trimmed_at : (bs : List ℕ) → trimmed bs ≡ drop (prefix_len (λ b. eqb b 32) bs) bs
+trimmed_at [] = refl
+trimmed_at (b ∷ bs) = spaces (eqb b 32) b (prefix_len (λ b. eqb b 32) bs) bs (trimmed_at bs)
+
+-- what `position` found: a mark or none
+abbrev first : ℕ → List ℕ → ℕ
+first m bs = position_or_len (λ b. eqb b m) bs
+
+pub at_mark : (m i : ℕ) (bs : List ℕ) → Some i ≡ cond (ltb (first m bs) (length bs)) (Some (first m bs)) None → (take i bs ≡ up_to m bs) × (drop (i + 1) bs ≡ beyond m bs)
+at_mark m i bs e =
+    let n = (cond_some (ltb (first m bs) (length bs)) (first m bs) i (sym e)).1 in
+    let c = cut_at m bs in
+    (ap (λ (k : ℕ). take k bs) (sym n) ∙ sym c.0, ap (λ (k : ℕ). drop (k + 1) bs) (sym n) ∙ sym (drop-drop 1 (first m bs) bs) ∙ ap (drop 1) (sym c.1))
+
+pub no_mark : (m : ℕ) (bs : List ℕ) → None ≡ cond (ltb (first m bs) (length bs)) (Some (first m bs)) None → (bs ≡ up_to m bs) × ([] ≡ beyond m bs)
+no_mark m bs e =
+    let c = cut_at m bs in
+    let past = without (ltb (first m bs) (length bs)) (first m bs) e in
+    let far = ltb-false (first m bs) (length bs) past in
+    (sym (take_all (first m bs) bs far) ∙ sym c.0, ap (drop 1) (sym (drop_all (first m bs) bs far) ∙ sym c.1))
+  where
+    without : (q : Bool) (n : ℕ) → None ≡ cond q (Some n) None → q ≡ false
+    without true n e = absurd (none-some n e)
+    without false n e = refl

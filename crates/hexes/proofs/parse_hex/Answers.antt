@@ -1,29 +1,13 @@
-use Rattle.std.proofs.Common.{ℕ, ◌+◌, ◌-◌, ◌/◌, List, length, vec_items, sym, ap, ◌∙◌, rules}
-use Rattle.wire.specs.Several.{several}
-use Rattle.hexes.proofs.Pairs.{onto, pair_cut, pair_more, pair_none}
+use Rattle.std.proofs.Common.{◌≡◌, ◌++◌, take, drop, length, rules}
+use Rattle.std.proofs.lemmas.List.{take_at}
+use Rattle.hexes.proofs.Pairs.{decoded_into}
 use Rattle.hexes.proofs.parse_hex.Goals as goal
-use Rattle.hexes.specs.Hex.{pair_of}
 
-pub returns-in_default : goal.returns-in_default
-returns-in_default c =
-    let l = c.loop-turn in
-    let e = sym (pair_cut (length c.args.word.now / 2) l.turn l.rest.now (vec_items l.bytes) c.loop-turn-test.true c.in_default.ensures) ∙ l.invariant in
+pub returns-in-Ok : goal.returns-in-Ok
+returns-in-Ok c =
+    let e = decoded_into c.args.word.now c.decode_to_slice.new.out _ c.decode_to_slice.result (search rules) c.decode_to_slice.ensures.value in
+    let whole : take c.in_ok-bytes.bytes.len (c.decode_to_slice.new.out ++ drop (length c.decode_to_slice.new.out) c.in_ok-bytes.bytes.items) ≡ c.decode_to_slice.new.out = take_at c.decode_to_slice.new.out _ c.in_ok-bytes.bytes.len (search rules) in
     search rules
 
-pub loop-turn-preserved : goal.loop-turn-preserved
-loop-turn-preserved c =
-    let l = c.loop-turn in
-    let e = pair_more (length c.args.word.now / 2) l.turn l.rest.now (vec_items l.bytes) c.in-Some.byte c.in-Some.after.now c.loop-turn-test.true c.in-Some.ensures ∙ l.invariant in
-    ap (λ (done : List ℕ). onto done (several pair_of (length c.args.word.now / 2 - (l.turn + 1)) c.in-Some.after.now)) c.in_ok-push.ensures.items ∙ e
-
-pub returns-then-is_empty : goal.returns-then-is_empty
-returns-then-is_empty c =
-    let l = c.loop-turn in
-    let e = sym (pair_none (length c.args.word.now / 2) l.turn l.rest.now (vec_items l.bytes) c.loop-turn-test.false) ∙ l.invariant in
-    search rules
-
-pub returns-else-is_empty : goal.returns-else-is_empty
-returns-else-is_empty c =
-    let l = c.loop-turn in
-    let e = sym (pair_none (length c.args.word.now / 2) l.turn l.rest.now (vec_items l.bytes) c.loop-turn-test.false) ∙ l.invariant in
-    search rules
+pub returns-in-Err : goal.returns-in-Err
+returns-in-Err c = let e = decoded_into c.args.word.now c.decode_to_slice.new.out _ c.decode_to_slice.result (search rules) c.decode_to_slice.ensures.value in search rules
