@@ -10,7 +10,6 @@ use Rattle.print.specs.Rows.{rows, store_text}
 use Rattle.store.specs.Store.{Store}
 use Rattle.store.specs.declared.ask.Ask.{Ask as Asked}
 use Rattle.store.specs.declared.ask.Ask.TheVariants.{Look, Put, Take}
-use Rattle.store.specs.declared.request.Request.{Request}
 
 -- a word in front of a number
 abbrev pub field : List ℕ → ℕ → List ℕ
@@ -20,39 +19,28 @@ field name n = name ++ decimal n
 abbrev pub member_text : ℕ → ℕ → List ℕ
 member_text i m = cond (i == 0) [] (codes ",") ++ decimal m
 
-unfoldable pub members_text : ℕ → List ℕ
+abbrev pub members_text : ℕ → List ℕ
 members_text set = rows member_text 0 (listed set)
 
 -- what is asked
-unfoldable pub ask_text : Asked → List ℕ
+abbrev pub ask_text : Asked → List ℕ
 ask_text (Put key value) = field (codes "put ") key ++ field (codes " ") value
 ask_text (Take key amount) = field (codes "take ") key ++ field (codes " ") amount
 ask_text (Look key) = field (codes "look ") key
 
 -- `entry CLIENT NUMBER ..` or `entry close M,M,..`
-unfoldable pub call_text : Request → List ℕ
-call_text r = (field (codes "entry ") r.client ++ (field (codes " ") r.number ++ codes " ")) ++ (ask_text r.ask ++ (10 ∷ []))
-
-unfoldable pub close_text : ℕ → List ℕ
-close_text ms = codes "entry close " ++ (members_text ms ++ (10 ∷ []))
-
 abbrev pub entry_text : Entry → List ℕ
-entry_text (Call r) = call_text r
-entry_text (Close ms) = close_text ms
+entry_text (Call r) = field (codes "entry ") r.client ++ (field (codes " ") r.number ++ (codes " " ++ (ask_text r.ask ++ (10 ∷ []))))
+entry_text (Close ms) = codes "entry close " ++ (members_text ms ++ (10 ∷ []))
 
 -- a message's head
-abbrev pub log_text : ℕ → ℕ → ℕ → List ℕ
-log_text from had count = field (codes " from ") from ++ (field (codes " had ") had ++ (field (codes " entries ") count ++ (10 ∷ [])))
+abbrev pub begin_text : ℕ → ℕ → ℕ → List ℕ
+begin_text t ms before = field (codes "begin term ") t ++ (codes " members " ++ (members_text ms ++ (field (codes " before ") before ++ (10 ∷ []))))
 
-unfoldable pub promise_text : ℕ → ℕ → ℕ → ℕ → ℕ → List ℕ
-promise_text t b from had count = (field (codes "promise term ") t ++ field (codes " ballot ") b) ++ log_text from had count
-
-unfoldable pub begin_text : ℕ → ℕ → ℕ → List ℕ
-begin_text t ms before = (field (codes "begin term ") t ++ codes " members ") ++ (members_text ms ++ (field (codes " before ") before ++ (10 ∷ [])))
-
-unfoldable pub head_text : Message → List ℕ
+abbrev pub head_text : Message → List ℕ
 head_text (Ask t b) = field (codes "ask term ") t ++ (field (codes " ballot ") b ++ (10 ∷ []))
-head_text (Promise t b from had count) = promise_text t b from had count
+head_text (Promise t b from had count) =
+    field (codes "promise term ") t ++ (field (codes " ballot ") b ++ (field (codes " from ") from ++ (field (codes " had ") had ++ (field (codes " entries ") count ++ (10 ∷ [])))))
 head_text (Part t b place count) =
     field (codes "part term ") t ++ (field (codes " ballot ") b ++ (field (codes " place ") place ++ (field (codes " entries ") count ++ (10 ∷ []))))
 head_text (Took t b from count) =
@@ -69,4 +57,4 @@ body_text (Begin t ms before) log s = store_text s
 
 -- `LINE MESSAGE`, and what stands under it
 abbrev pub message_text : ℕ → Message → List Entry → Store → List ℕ
-message_text line m log s = (decimal line ++ codes " ") ++ (head_text m ++ body_text m log s)
+message_text line m log s = decimal line ++ (codes " " ++ (head_text m ++ body_text m log s))

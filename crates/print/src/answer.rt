@@ -1,14 +1,14 @@
 // What a rehearsal prints.
-ghost use Rattle.print.specs.Answer.{answer_text, line_text};
-ghost use Rattle.std.specs.Prelude.{◌≡◌, ◌++◌, Some, string_bytes, OnOk};
+ghost use Rattle.print.specs.Answer.{answer_text};
+ghost use Rattle.std.specs.Prelude.{Some};
 
-use std::alloc::{AllocError, Global};
 use std::fmt;
 
 // The answer to a line.
-#[derive(Clone, Copy)]
+#[derive(Clone, Copy, PartialEq, Eq, Debug)]
 pub enum Answer {
     Word(u32),
+    // its number, whichever enum of refusals it comes from: that is all that is printed
     Refused(u8),
     Show,
 }
@@ -20,19 +20,7 @@ impl fmt::Display for Answer {
         match self {
             Answer::Word(word) => write!(f, "word {word}"),
             Answer::Refused(number) => write!(f, "refused {number}"),
-            Answer::Show => write!(f, "show"),
+            Answer::Show => f.write_str("show"),
         }
     }
-}
-
-// `LINE ANSWER`
-pub fn push_answer(
-    heap: Global,
-    out: &mut String,
-    line: usize,
-    answer: Answer,
-) -> Result<(), AllocError>
-    ensures { OnOk result (string_bytes out.new ≡ string_bytes out.old ++ line_text line answer) }
-{
-    out.push_str(format!(in heap; "{line} {answer}\n")?.as_str())
 }

@@ -1,94 +1,78 @@
 // Entries as text.
 ghost use Rattle.wire.specs.Several.{joined};
-ghost use Rattle.print.specs.Messages.{ask_text, call_text, close_text, entry_text, member_text, members_text};
-ghost use Rattle.print.specs.Rows.{rows};
-ghost use Rattle.std.specs.Prelude.{◌≡◌, ◌++◌, string_bytes, OnOk};
+ghost use Rattle.print.specs.Messages.{ask_text, entry_text, members_text};
+ghost use Rattle.std.specs.Prelude.{Some};
 
 use entry::{Entry, list_members};
-use std::alloc::{AllocError, Global};
+use std::fmt;
 use store::{Ask, Request};
 
 // `put KEY VALUE`, `take KEY AMOUNT` or `look KEY`
-fn push_ask(heap: Global, out: &mut String, ask: Ask) -> Result<(), AllocError>
-    ensures { OnOk result (string_bytes out.new ≡ string_bytes out.old ++ ask_text ask) }
-{
-    match ask {
-        Ask::Put { key, value } => out.push_str(format!(in heap; "put {key} {value}")?.as_str()),
-        Ask::Take { key, amount } => out.push_str(format!(in heap;
-            "take {key} {amount}"
-        )?.as_str()),
-        Ask::Look { key } => out.push_str(format!(in heap; "look {key}")?.as_str()),
-    }
-}
+#[derive(Clone, Copy, PartialEq, Eq, Debug)]
+struct AskText(Ask);
 
-// A member, with a comma before it unless it is the first.
-fn push_member(heap: Global, out: &mut String, i: usize, station: u8) -> Result<(), AllocError>
-    ensures { OnOk result (string_bytes out.new ≡ string_bytes out.old ++ member_text i station) }
-{
-    if i == 0 {
-        out.push_str(format!(in heap; "{station}")?.as_str())
-    } else {
-        out.push_str(format!(in heap; ",{station}")?.as_str())
-    }
-}
+impl fmt::Display for AskText {
+    ghost output = { λ a. Some (ask_text a.0) };
 
-// Stations with commas between them.
-fn push_list(heap: Global, out: &mut String, list: &[u8]) -> Result<(), AllocError>
-    ensures { OnOk result (string_bytes out.new ≡ string_bytes out.old ++ rows member_text 0 list.now) }
-{
-    for (i, station) in list.iter().enumerate() {
-        push_member(heap, out, i, *station)?;
+    fn fmt<W: fmt::Write>(&self, f: &mut fmt::Formatter<W>) -> fmt::Result {
+        match self.0 {
+            Ask::Put { key, value } => write!(f, "put {key} {value}"),
+            Ask::Take { key, amount } => write!(f, "take {key} {amount}"),
+            Ask::Look { key } => write!(f, "look {key}"),
+        }
     }
-    Ok(())
 }
 
 // `M,M,..`
-pub fn push_members(heap: Global, out: &mut String, members: u16) -> Result<(), AllocError>
-    ensures { OnOk result (string_bytes out.new ≡ string_bytes out.old ++ members_text members) }
-{
-    let listing = list_members(members);
-    push_list(heap, out, &listing.stations[0..listing.len])
+#[derive(Clone, Copy, PartialEq, Eq, Debug)]
+pub struct MembersText(pub u16);
+
+impl fmt::Display for MembersText {
+    ghost output = { λ m. Some (members_text m.0) };
+
+    #[tactic(auto, using(crate::proofs::Printed::row_written))]
+    fn fmt<W: fmt::Write>(&self, f: &mut fmt::Formatter<W>) -> fmt::Result {
+        let list = list_members(self.0);
+        for (i, station) in list.as_slice().iter().enumerate() {
+            let comma = if i == 0 { "" } else { "," };
+            write!(f, "{comma}{station}")?;
+        }
+        Ok(())
+    }
 }
 
-// `entry CLIENT NUMBER ..`
-fn push_call(heap: Global, out: &mut String, request: Request) -> Result<(), AllocError>
-    ensures { OnOk result (string_bytes out.new ≡ string_bytes out.old ++ call_text request) }
-{
-    let client = request.client;
-    let number = request.number;
-    out.push_str(format!(in heap; "entry {client} {number} ")?.as_str())?;
-    push_ask(heap, out, request.ask)?;
-    out.push_str("\n")?;
-    Ok(())
-}
+// `entry CLIENT NUMBER ..` or `entry close M,M,..`, a whole line.
+#[derive(Clone, Copy, PartialEq, Eq, Debug)]
+pub struct EntryText(pub Entry);
 
-// `entry close M,M,..`
-fn push_close(heap: Global, out: &mut String, members: u16) -> Result<(), AllocError>
-    ensures { OnOk result (string_bytes out.new ≡ string_bytes out.old ++ close_text members) }
-{
-    out.push_str("entry close ")?;
-    push_members(heap, out, members)?;
-    out.push_str("\n")?;
-    Ok(())
-}
+impl fmt::Display for EntryText {
+    ghost output = { λ e. Some (entry_text e.0) };
 
-pub fn push_entry(heap: Global, out: &mut String, entry: Entry) -> Result<(), AllocError>
-    ensures { OnOk result (string_bytes out.new ≡ string_bytes out.old ++ entry_text entry) }
-{
-    match entry {
-        Entry::Call(request) => push_call(heap, out, request),
-        Entry::Close { members } => push_close(heap, out, members),
+    fn fmt<W: fmt::Write>(&self, f: &mut fmt::Formatter<W>) -> fmt::Result {
+        match self.0 {
+            Entry::Call(
+                Request {
+                    client,
+                    number,
+                    ask,
+                },
+            ) => writeln!(f, "entry {client} {number} {}", AskText(ask)),
+            Entry::Close { members } => writeln!(f, "entry close {}", MembersText(members)),
+        }
     }
 }
 
 // A line for each.
-pub fn push_entries(heap: Global, out: &mut String, entries: &[Entry]) -> Result<(), AllocError>
-    ensures { OnOk result (string_bytes out.new ≡ string_bytes out.old ++ joined entry_text entries.now) }
-{
-    let mut rest = entries;
-    while let Some((entry, after)) = rest.split_first() {
-        push_entry(heap, out, *entry)?;
-        rest = after;
+#[derive(Clone, Copy, Debug)]
+pub struct EntriesText<'a>(pub &'a [Entry]);
+
+impl fmt::Display for EntriesText<'_> {
+    ghost output = { λ es. Some (joined entry_text es.0.now) };
+
+    fn fmt<W: fmt::Write>(&self, f: &mut fmt::Formatter<W>) -> fmt::Result {
+        for entry in self.0 {
+            write!(f, "{}", EntryText(*entry))?;
+        }
+        Ok(())
     }
-    Ok(())
 }

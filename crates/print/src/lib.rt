@@ -1,4 +1,4 @@
-// What a rehearsal prints: text behind the text that was printed before.
+// What a rehearsal prints: answers, entries, stores and messages as text.
 #![tactic(auto)]
 
 mod answer;
@@ -6,7 +6,7 @@ mod entry_lines;
 mod messages;
 mod tables;
 
-pub use answer::{Answer, push_answer};
-pub use entry_lines::{push_entries, push_entry, push_members};
-pub use messages::push_message;
-pub use tables::push_store;
+pub use answer::Answer;
+pub use entry_lines::{EntriesText, EntryText, MembersText};
+pub use messages::MessageText;
+pub use tables::StoreText;

@@ -1,94 +1,73 @@
 // Messages as text.
-ghost use Rattle.print.specs.Messages.{begin_text, body_text, head_text, log_text, message_text, promise_text};
-ghost use Rattle.std.specs.Prelude.{◌≡◌, ◌++◌, take, drop, string_bytes, OnOk};
-ghost use Rattle.store.specs.Store.{lent};
+ghost use Rattle.print.specs.Messages.{begin_text, body_text, head_text};
+ghost use Rattle.std.specs.Fmt.{WritesOnOk};
+ghost use Rattle.std.specs.Prelude.{◌≡◌, ◌++◌, take, drop, Some};
+ghost use Rattle.store.specs.Tables.{held};
 
-use crate::entry_lines::{push_entries, push_members};
-use crate::tables::push_store;
+use crate::entry_lines::{EntriesText, MembersText};
+use crate::tables::StoreText;
 use entry::Entry;
 use message::Message;
-use std::alloc::{AllocError, Global};
+use std::fmt;
+use store::Tables;
 
-// Whose log a promise carries, of which ballot, and how long it is.
-fn push_log(
-    heap: Global,
-    out: &mut String,
-    from: u8,
-    had: u32,
-    count: u16,
-) -> Result<(), AllocError>
-    ensures { OnOk result (string_bytes out.new ≡ string_bytes out.old ++ log_text from had count) }
-{
-    out.push_str(format!(in heap; " from {from} had {had} entries {count}\n")?.as_str())
-}
-
-fn push_promise(
-    heap: Global,
-    out: &mut String,
-    term: u16,
-    ballot: u32,
-    from: u8,
-    had: u32,
-    count: u16,
-) -> Result<(), AllocError>
-    ensures { OnOk result (string_bytes out.new ≡ string_bytes out.old ++ promise_text term ballot from had count) }
-{
-    out.push_str(format!(in heap; "promise term {term} ballot {ballot}")?.as_str())?;
-    push_log(heap, out, from, had, count)?;
-    Ok(())
-}
-
-fn push_begin(
-    heap: Global,
-    out: &mut String,
+// A begin without its page.
+fn fmt_begin<W: fmt::Write>(
+    f: &mut fmt::Formatter<W>,
     term: u16,
     members: u16,
     before: u32,
-) -> Result<(), AllocError>
-    ensures { OnOk result (string_bytes out.new ≡ string_bytes out.old ++ begin_text term members before) }
+) -> fmt::Result
+    ensures { WritesOnOk W.write_str_gives f.old result (begin_text term members before) f.new }
 {
-    out.push_str(format!(in heap; "begin term {term} members ")?.as_str())?;
-    push_members(heap, out, members)?;
-    out.push_str(format!(in heap; " before {before}\n")?.as_str())?;
-    Ok(())
+    let members = MembersText(members);
+    writeln!(f, "begin term {term} members {members} before {before}")
 }
 
 // A message without its entries or its page.
-fn push_head(heap: Global, out: &mut String, message: Message) -> Result<(), AllocError>
-    ensures { OnOk result (string_bytes out.new ≡ string_bytes out.old ++ head_text message) }
-{
-    match message {
-        Message::Ask { term, ballot } => {
-            out.push_str(format!(in heap; "ask term {term} ballot {ballot}\n")?.as_str())
+#[derive(Clone, Copy, PartialEq, Eq, Debug)]
+struct HeadText(Message);
+
+impl fmt::Display for HeadText {
+    ghost output = { λ h. Some (head_text h.0) };
+
+    fn fmt<W: fmt::Write>(&self, f: &mut fmt::Formatter<W>) -> fmt::Result {
+        match self.0 {
+            Message::Ask { term, ballot } => writeln!(f, "ask term {term} ballot {ballot}"),
+            Message::Promise {
+                term,
+                ballot,
+                from,
+                had,
+                count,
+            } => writeln!(
+                f,
+                "promise term {term} ballot {ballot} from {from} had {had} entries {count}"
+            ),
+            Message::Part {
+                term,
+                ballot,
+                place,
+                count,
+            } => writeln!(
+                f,
+                "part term {term} ballot {ballot} place {place} entries {count}"
+            ),
+            Message::Took {
+                term,
+                ballot,
+                from,
+                count,
+            } => writeln!(
+                f,
+                "took term {term} ballot {ballot} from {from} entries {count}"
+            ),
+            Message::Begin {
+                term,
+                members,
+                before,
+            } => fmt_begin(f, term, members, before),
         }
-        Message::Promise {
-            term,
-            ballot,
-            from,
-            had,
-            count,
-        } => push_promise(heap, out, term, ballot, from, had, count),
-        Message::Part {
-            term,
-            ballot,
-            place,
-            count,
-        } => out.push_str(format!(in heap;
-            "part term {term} ballot {ballot} place {place} entries {count}\n"
-        )?.as_str()),
-        Message::Took {
-            term,
-            ballot,
-            from,
-            count,
-        } => out.push_str(format!(in heap;
-            "took term {term} ballot {ballot} from {from} entries {count}\n"
-        )?.as_str()),
-        Message::Begin {
-            term,
-            members,
-            before,
-        } => push_begin(heap, out, term, members, before),
     }
 }
 
@@ -96,60 +75,34 @@ fn push_head(heap: Global, out: &mut String, message: Message) -> Result<(), All
 fn section(log: &[Entry], place: usize, count: usize) -> &[Entry]
     ensures { result.now ≡ take count (drop place log.now) }
 {
-    if place > log.len() {
-        return &log[0..0];
-    }
-    let rest = &log[place..];
-    if count > rest.len() {
-        rest
-    } else {
-        &rest[0..count]
-    }
+    let rest = &log[place.min(log.len())..];
+    &rest[..count.min(rest.len())]
 }
 
-// What a message brought: the entries that it put into a log, or its store.
-fn push_body(
-    heap: Global,
-    out: &mut String,
-    message: Message,
-    log: &[Entry],
-    shelves: &[u32],
-    lasts: &[u32],
-    words: &[u32],
-) -> Result<(), AllocError>
-    ensures { OnOk result (string_bytes out.new ≡ string_bytes out.old ++ body_text message log.now (lent shelves.now lasts.now words.now)) }
-{
-    match message {
-        Message::Ask { .. } | Message::Took { .. } => Ok(()),
-        Message::Promise { count, .. } => {
-            push_entries(heap, out, section(log, 0, usize::from(count)))
-        }
-        Message::Part { place, count, .. } => {
-            push_entries(
-                heap,
-                out,
-                section(log, usize::from(place), usize::from(count)),
-            )
-        }
-        Message::Begin { .. } => push_store(heap, out, shelves, lasts, words),
-    }
+// A message, and under it what it brought: the entries that it put into a log, or its store.
+#[derive(Clone, Copy, Debug)]
+pub struct MessageText<'a> {
+    pub message: Message,
+    pub log: &'a [Entry],
+    pub store: Tables<'a>,
 }
 
-// `LINE MESSAGE`, and under it what it brought.
-pub fn push_message(
-    heap: Global,
-    out: &mut String,
-    line: usize,
-    message: Message,
-    log: &[Entry],
-    shelves: &[u32],
-    lasts: &[u32],
-    words: &[u32],
-) -> Result<(), AllocError>
-    ensures { OnOk result (string_bytes out.new ≡ string_bytes out.old ++ message_text line message log.now (lent shelves.now lasts.now words.now)) }
-{
-    out.push_str(format!(in heap; "{line} ")?.as_str())?;
-    push_head(heap, out, message)?;
-    push_body(heap, out, message, log, shelves, lasts, words)?;
-    Ok(())
+impl fmt::Display for MessageText<'_> {
+    ghost output = { λ m. Some (head_text m.message ++ body_text m.message m.log.now (held m.store)) };
+
+    fn fmt<W: fmt::Write>(&self, f: &mut fmt::Formatter<W>) -> fmt::Result {
+        write!(f, "{}", HeadText(self.message))?;
+        match self.message {
+            Message::Ask { .. } | Message::Took { .. } => Ok(()),
+            Message::Promise { count, .. } => {
+                let brought = section(self.log, 0, usize::from(count));
+                write!(f, "{}", EntriesText(brought))
+            }
+            Message::Part { place, count, .. } => {
+                let brought = section(self.log, usize::from(place), usize::from(count));
+                write!(f, "{}", EntriesText(brought))
+            }
+            Message::Begin { .. } => write!(f, "{}", StoreText(self.store)),
+        }
+    }
 }

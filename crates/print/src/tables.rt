@@ -1,81 +1,63 @@
 // A store as text.
-ghost use Rattle.print.specs.Rows.{client_row, clients_text, shelf_row, shelves_text, store_text};
-ghost use Rattle.std.specs.Prelude.{◌≡◌, ◌++◌, string_bytes, OnOk, slice_index};
-ghost use Rattle.store.specs.Store.{lent};
+ghost use Rattle.print.specs.Rows.{clients_text, shelves_text, store_text};
+ghost use Rattle.std.specs.Prelude.{Some};
+ghost use Rattle.store.specs.Tables.{held};
 
-use std::alloc::{AllocError, Global};
+use std::fmt;
+use store::Tables;
 
-// A shelf, unless it holds 0.
-fn push_shelf(heap: Global, out: &mut String, key: usize, held: u32) -> Result<(), AllocError>
-    ensures { OnOk result (string_bytes out.new ≡ string_bytes out.old ++ shelf_row key held) }
-{
-    if held == 0 {
-        return Ok(());
-    }
-    out.push_str(format!(in heap; "shelf {key} {held}\n")?.as_str())
-}
+// A row for each shelf that holds something.
+#[derive(Clone, Copy, Debug)]
+struct ShelvesText<'a>(&'a [u32]);
 
-// What a table of words has for a client.
-fn word_of(words: &[u32], client: usize) -> u32
-    ensures { result ≡ slice_index words.now client }
-{
-    if client < words.len() {
-        words[client]
-    } else {
-        0
+impl fmt::Display for ShelvesText<'_> {
+    ghost output = { λ s. Some (shelves_text s.0.now) };
+
+    #[tactic(auto, using(crate::proofs::Printed::row_written))]
+    fn fmt<W: fmt::Write>(&self, f: &mut fmt::Formatter<W>) -> fmt::Result {
+        for (key, held) in self.0.iter().enumerate() {
+            if *held != 0 {
+                writeln!(f, "shelf {key} {held}")?;
+            }
+        }
+        Ok(())
     }
 }
 
-// A client, unless nothing of it was done.
-fn push_client(
-    heap: Global,
-    out: &mut String,
-    words: &[u32],
-    client: usize,
-    last: u32,
-) -> Result<(), AllocError>
-    ensures { OnOk result (string_bytes out.new ≡ string_bytes out.old ++ client_row words.now client last) }
-{
-    if last == 0 {
-        return Ok(());
-    }
-    let word = word_of(words, client);
-    out.push_str(format!(in heap; "client {client} last {last} word {word}\n")?.as_str())
+// A row for each client that had something done.
+#[derive(Clone, Copy, Debug)]
+struct ClientsText<'a> {
+    lasts: &'a [u32],
+    words: &'a [u32],
 }
 
-fn push_shelves(heap: Global, out: &mut String, shelves: &[u32]) -> Result<(), AllocError>
-    ensures { OnOk result (string_bytes out.new ≡ string_bytes out.old ++ shelves_text shelves.now) }
-{
-    for (key, held) in shelves.iter().enumerate() {
-        push_shelf(heap, out, key, *held)?;
-    }
-    Ok(())
-}
+impl fmt::Display for ClientsText<'_> {
+    ghost output = { λ c. Some (clients_text c.lasts.now c.words.now) };
 
-fn push_clients(
-    heap: Global,
-    out: &mut String,
-    lasts: &[u32],
-    words: &[u32],
-) -> Result<(), AllocError>
-    ensures { OnOk result (string_bytes out.new ≡ string_bytes out.old ++ clients_text lasts.now words.now) }
-{
-    for (client, last) in lasts.iter().enumerate() {
-        push_client(heap, out, words, client, *last)?;
+    fn fmt<W: fmt::Write>(&self, f: &mut fmt::Formatter<W>) -> fmt::Result {
+        for (client, last) in self.lasts.iter().enumerate() {
+            if *last != 0 {
+                let word = self.words.get(client).copied().unwrap_or(0);
+                writeln!(f, "client {client} last {last} word {word}")?;
+            }
+        }
+        Ok(())
     }
-    Ok(())
 }
 
 // A store: its shelves, then its clients.
-pub fn push_store(
-    heap: Global,
-    out: &mut String,
-    shelves: &[u32],
-    lasts: &[u32],
-    words: &[u32],
-) -> Result<(), AllocError>
-    ensures { OnOk result (string_bytes out.new ≡ string_bytes out.old ++ store_text (lent shelves.now lasts.now words.now)) }
-{
-    push_shelves(heap, out, shelves)?;
-    push_clients(heap, out, lasts, words)
+#[derive(Clone, Copy, Debug)]
+pub struct StoreText<'a>(pub Tables<'a>);
+
+impl fmt::Display for StoreText<'_> {
+    ghost output = { λ s. Some (store_text (held s.0)) };
+
+    fn fmt<W: fmt::Write>(&self, f: &mut fmt::Formatter<W>) -> fmt::Result {
+        let shelves = ShelvesText(self.0.shelves);
+        let clients = ClientsText {
+            lasts: self.0.lasts,
+            words: self.0.words,
+        };
+        write!(f, "{shelves}{clients}")
+    }
 }

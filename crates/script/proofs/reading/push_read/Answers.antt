@@ -1,12 +1,8 @@
-use Rattle.script.proofs.Readings.{never, shown_ok, shown_refused}
+use Rattle.script.proofs.Readings.{shown_ok, shown_refused}
 use Rattle.script.proofs.reading.push_read.Goals as goal
 use Rattle.script.specs.Reading.{blank}
 use Rattle.store.specs.Store.{bare}
 use Rattle.std.proofs.Common.{rules}
-
-pub unreachable-requires : goal.unreachable-requires
-unfolding blank
-unreachable-requires c = never c.args.bytes.now blank bare (search rules) (search rules) (search rules)
 
 pub returns-in-Ok : goal.returns-in-Ok
 unfolding blank
