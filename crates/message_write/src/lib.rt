@@ -58,14 +58,14 @@ pub fn write_part(
     ensures end { result ≡ fitting (place + length entries.now) (placed (length out.old) at (length (part_bytes term ballot place entries.now))) None }
     ensures bytes { out.new ≡ fitting (place + length entries.now) (placed_at out.old at (part_bytes term ballot place entries.now)) out.old }
 {
-    let room = usize::from(LOG);
-    if entries.len() > room || usize::from(place) + entries.len() > room {
+    let count = u16::try_from(entries.len()).ok()?;
+    if u32::from(place) + u32::from(count) > u32::from(LOG) {
         return None;
     }
     let t = term.bytes();
     let b = ballot.bytes();
     let p = place.bytes();
-    let c = (entries.len() as u16).bytes();
+    let c = count.bytes();
     let header = [
         5, t[0], t[1], b[0], b[1], b[2], b[3], p[0], p[1], c[0], c[1],
     ];
@@ -85,13 +85,10 @@ pub fn write_promise(
     ensures end { result ≡ fitting (length entries.now) (placed (length out.old) at (length (promise_bytes term ballot from had entries.now))) None }
     ensures bytes { out.new ≡ fitting (length entries.now) (placed_at out.old at (promise_bytes term ballot from had entries.now)) out.old }
 {
-    if entries.len() > usize::from(LOG) {
-        return None;
-    }
     let t = term.bytes();
     let b = ballot.bytes();
     let h = had.bytes();
-    let c = (entries.len() as u16).bytes();
+    let c = u16::try_from(entries.len()).ok()?.bytes();
     let header = [
         4, t[0], t[1], b[0], b[1], b[2], b[3], from, h[0], h[1], h[2], h[3], c[0], c[1],
     ];
