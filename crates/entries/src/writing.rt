@@ -4,7 +4,7 @@ ghost use Rattle.wire.specs.Bytes.{placed, placed_at};
 ghost use Rattle.entries.specs.Entries.{entries_bytes, fitting};
 
 use entry::{Entry, entry_size, write_entry};
-use wire::put;
+use wire::{end_within, put};
 
 // The most entries that a log has.
 pub const LOG: u16 = 4096;
@@ -46,12 +46,8 @@ pub fn write_behind(header: &[u8], entries: &[Entry], out: &mut [u8], at: usize)
     if entries.len() > usize::from(LOG) {
         return None;
     }
-    let end = at
-        .checked_add(header.len())?
-        .checked_add(entries_size(entries))?;
-    if end > out.len() {
-        return None;
-    }
-    let next = put(out, at, header).unwrap();
+    let next = end_within(out.len(), at, header.len())?;
+    end_within(out.len(), next, entries_size(entries))?;
+    put(out, at, header);
     Some(put_entries(entries, out, next))
 }

@@ -52,7 +52,8 @@ pub fn read_members(bytes: &[u8]) -> Option<(Judged<u16>, &[u8])>
     Some((gather(list), rest))
 }
 
-// The members of a set, rising. By a loop: to collect an iterator takes an allocator.
+// The members of a set, rising.
+// A loop, and not `extend` by a filter: its clause speaks of the filter's runs, and that it can find the vector full would have to be ruled out.
 pub fn list_members(set: u16) -> ArrayVec<u8, 16>
     ensures listed { result.items ≡ listed set }
     ensures within { length result.items ≤ 16 }

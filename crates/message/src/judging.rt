@@ -24,6 +24,7 @@ fn judge_body(message: Message, body: &[u8]) -> Option<(bool, &[u8])>
 }
 
 // A message's head and body, or what is wrong with the message: its form before its range.
+// Not by `accept_whole`, which would take a function and a definition more, since the body goes out with the head.
 pub fn open(bytes: &[u8]) -> Result<(Message, &[u8]), Fault>
     ensures { seen_opened result ≡ opened_in bytes.now }
 {

@@ -9,7 +9,7 @@ ghost use Rattle.store.specs.Tables.{held};
 
 use page::{Client, Row, Shelf};
 use store::{Tables, WholeTables};
-use wire::{Fixed, put};
+use wire::{Fixed, end_within, put};
 
 // How many cells don't hold 0.
 fn count_rows(cells: &[u32]) -> usize
@@ -37,6 +37,7 @@ fn put_rows<const N: usize, R: Row<N>>(out: &mut [u8], at: usize, store: WholeTa
 {
     let cells = R::cells(store);
     let mut next = put_part(out, at, &(count_rows(cells) as u16).bytes());
+    // each place is asked, and not each cell: a client's row is more than its cell
     for place in 0..cells.len() {
         if let Some(row) = R::row_at(store, place) {
             next = put_part(out, next, &row.bytes());
@@ -72,9 +73,6 @@ pub fn write_page(before: u32, store: Tables<'_>, out: &mut [u8], at: usize) -> 
     ensures bytes { out.new ≡ page_at out.old at before (held store.entry) }
 {
     let store = store.whole()?;
-    let end = at.checked_add(page_size(store))?;
-    if end > out.len() {
-        return None;
-    }
+    end_within(out.len(), at, page_size(store))?;
     Some(put_page(before, store, out, at))
 }

@@ -20,6 +20,13 @@ pub fn read_slice(bytes: &[u8], count: usize) -> Option<(&[u8], &[u8])>
     bytes.split_at_checked(count)
 }
 
+// Where `count` bytes end that are written from `at` on, if there is room for all of them in `room` bytes.
+pub fn end_within(room: usize, at: usize, count: usize) -> Option<usize>
+    ensures { result ≡ placed room at count }
+{
+    at.checked_add(count).filter(|end| *end <= room)
+}
+
 // Writes `bytes` over what stands in `out` from `at` on, and says where they end.
 // Where there is no room for all of them nothing is written.
 // Slice and place stay two parameters, and not a cursor: what is written first may stand behind what is written next.
@@ -27,10 +34,7 @@ pub fn put(out: &mut [u8], at: usize, bytes: &[u8]) -> Option<usize>
     ensures end { result ≡ placed (length out.old) at (length bytes.now) }
     ensures bytes { out.new ≡ placed_at out.old at bytes.now }
 {
-    let end = at.checked_add(bytes.len())?;
-    if end > out.len() {
-        return None;
-    }
+    let end = end_within(out.len(), at, bytes.len())?;
     out[at..end].copy_from_slice(bytes);
     Some(end)
 }
@@ -41,11 +45,9 @@ pub fn put_both(out: &mut [u8], at: usize, first: &[u8], second: &[u8]) -> Optio
     ensures end { result ≡ placed (length out.old) at (length (first.now ++ second.now)) }
     ensures bytes { out.new ≡ placed_at out.old at (first.now ++ second.now) }
 {
-    let end = at.checked_add(first.len())?.checked_add(second.len())?;
-    if end > out.len() {
-        return None;
-    }
-    let next = put(out, at, first).unwrap();
+    let next = end_within(out.len(), at, first.len())?;
+    end_within(out.len(), next, second.len())?;
+    put(out, at, first);
     put(out, next, second)
 }
 
