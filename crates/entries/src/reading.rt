@@ -45,6 +45,9 @@ pub fn read_entries<'a>(bytes: &'a [u8], count: u16, log: &mut [Entry]) -> Optio
     ensures rest { seen_rest result ≡ read_rest count log.old bytes.now }
     ensures log { log.new ≡ read_into count log.old bytes.now }
 {
+    if usize::from(count) > log.len() {
+        return None;
+    }
     judge_entries(bytes, count)?;
     load_entries(bytes, count, log)
 }
