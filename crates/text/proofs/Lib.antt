@@ -1,3 +1,4 @@
 mod Marks
 mod Numbers
+pub mod FirstLine
 pub mod Parts
