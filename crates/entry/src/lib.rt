@@ -7,6 +7,6 @@ mod read;
 mod write;
 
 pub use entry::Entry;
-pub use members::{list_members, read_members};
+pub use members::{Listing, list_members, read_members};
 pub use read::read_entry;
 pub use write::{entry_size, write_entry};

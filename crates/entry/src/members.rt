@@ -1,9 +1,11 @@
 // The members of a council, listed in bytes, as a set of bits.
-ghost use Rattle.std.specs.Prelude.{◌≡◌, ◌<◌, ◌≤◌, not, ◌&&◌, length, ◌==◌};
+ghost use Rattle.std.specs.Prelude.{◌≡◌, ◌<◌, ◌≤◌, not, ◌&&◌, length, take, ◌==◌, nat_eq};
+ghost use Rattle.std.specs.Cmp.{on_equiv, on_per, partial_equiv_from_equiv};
+ghost use Rattle.std.specs.Cmp.Lexicographic.{nat_list_eq_equiv, pointwise};
 ghost use Rattle.wire.specs.Bytes.{seen};
 ghost use Rattle.entry.specs.Members.{listed, members_in, members_of, visited, walked};
 
-use arrayvec::ArrayVec;
+use std::marker::Model;
 use wire::{Fixed, Judged, read_slice};
 
 // One station visited: it is a member if it comes next in the list.
@@ -52,19 +54,74 @@ pub fn read_members(bytes: &[u8]) -> Option<(Judged<u16>, &[u8])>
     Some((gather(list), rest))
 }
 
+// The members of a set, rising: the first `len` of the stations.
+#[derive(Clone, Copy, Debug)]
+pub struct Listing {
+    pub stations: [u8; 16],
+    pub len: usize,
+}
+
+impl Model for Listing {
+    ghost use Rattle.std.specs.Prelude.{take};
+    ghost use Rattle.entry.specs.Listing.{Listing as Listed};
+
+    ghost Value = { Listed };
+
+    ghost view = { λ l. record { stations = l.stations; len = l.len; items = take l.len l.stations } };
+
+    ghost inverse = { λ l. record { stations = l.stations; len = l.len } };
+}
+
+impl Listing {
+    // How many stations are listed: all sixteen, if `len` says more.
+    pub fn len(&self) -> usize
+        ensures value { result ≡ length self.now.items }
+        ensures fits { result ≤ 16 }
+    {
+        self.len.min(self.stations.len())
+    }
+
+    // The stations that are listed.
+    pub fn as_slice(&self) -> &[u8]
+        ensures value { result.now ≡ self.now.items }
+        ensures fits { length result.now ≤ 16 }
+    {
+        &self.stations[..self.len()]
+    }
+}
+
+// Two listings are equal if the same stations are listed: the places behind don't count.
+impl PartialEq for Listing {
+    ghost eq = { λ a b. pointwise nat_eq a.items b.items };
+
+    ghost laws = { on_per (λ l. l.items) (partial_equiv_from_equiv nat_list_eq_equiv) };
+
+    fn eq(&self, other: &Self) -> bool {
+        self.as_slice() == other.as_slice()
+    }
+}
+
+impl Eq for Listing {
+    ghost laws = { on_equiv (λ l. l.items) nat_list_eq_equiv };
+}
+
 // The members of a set, rising.
-// A loop, and not `extend` by a filter: its clause speaks of the filter's runs, and that it can find the vector full would have to be ruled out.
-pub fn list_members(set: u16) -> ArrayVec<u8, 16>
+pub fn list_members(set: u16) -> Listing
     ensures listed { result.items ≡ listed set }
     ensures within { length result.items ≤ 16 }
+    ensures front { take result.len result.stations ≡ listed set }
+    ensures len_within { result.len ≤ 16 }
+    ensures count { result.len ≡ length (listed set) }
 {
-    let mut list = ArrayVec::new();
+    let mut stations = [0; 16];
+    let mut len = 0;
     let mut left = set;
     for station in 0..16 {
         if left % 2 == 1 {
-            list.push(station);
+            stations[len] = station;
+            len += 1;
         }
         left /= 2;
     }
-    list
+    Listing { stations, len }
 }
