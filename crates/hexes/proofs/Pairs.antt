@@ -3,9 +3,11 @@ use Rattle.std.proofs.Common.{◌≡◌, ℕ, suc, ◌+◌, ◌*◌, ◌/◌, �
 use Rattle.std.proofs.lemmas.Bool.{eqb-true, eq-eqb}
 use Rattle.std.proofs.lemmas.Bool.Decides.{nat_tests}
 use Rattle.std.proofs.lemmas.Option.{none-some}
+use Rattle.std.specs.List.{AllPass}
 use Rattle.std.specs.Option.{option_map}
 use Rattle.std.specs.Result.{MatchResult, result_ok}
-use Rattle.hex.specs.Hex.{decode_of, decode_pairs, decode_sized, digit_or_error, hex_digit_value, pair_value, ◌>>=◌}
+use Rattle.hex.proofs.HexLemmas.{decode_of-ok}
+use Rattle.hex.specs.Hex.{decode_of, decode_pairs, decode_sized, digit_or_error, hex_digit_value, is_hex_digit, pair_value, ◌>>=◌}
 use Rattle.hex.specs.declared.error.FromHexError.{FromHexError}
 use Rattle.hex.specs.declared.error.FromHexError.TheVariants.{InvalidStringLength, OddLength}
 use Rattle.hexes.specs.Hex.{digit_of, ended_with, joined_to, pair_of}
@@ -70,6 +72,13 @@ decoded word = pairs_decoded 0 word ∙ by_parity (length word % 2 == 1) refl
     by_parity : (q : Bool) → (length word % 2 == 1) ≡ q → result_ok (decode_pairs 0 word) ≡ result_ok (cond q (Err OddLength) (decode_pairs 0 word))
     by_parity true e = odd_none 0 word (eqb-true (length word % 2) 1 e)
     by_parity false e = refl
+
+-- a word that is no pairs of digits writes nothing
+pub refused : (word : List ℕ) → ¬ ((length word % 2 ≡ 0) × AllPass is_hex_digit word) → ended_with (several pair_of (length word / 2) word) ≡ None
+refused word h = decoded word ∙ go (decode_of word) refl where
+  go : (r : Result (List ℕ) FromHexError) → decode_of word ≡ r → result_ok r ≡ None
+  go (Ok bytes) e = let ok = decode_of-ok word bytes e in absurd (h (ok.0, ok.1))
+  go (Err f) e = refl
 
 -- decoded into room for just as many bytes as there are pairs
 sized : (word : List ℕ) (n : ℕ) → n ≡ length word / 2 → decode_sized word n ≡ decode_of word

@@ -1,11 +1,36 @@
 // Bytes written in a text: two digits for each, the high one first.
 #![tactic(auto)]
 
-ghost use Rattle.std.specs.Prelude.{◌≡◌, IfOk, vec_items};
-ghost use Rattle.hexes.specs.Hex.{hex_of};
+ghost use Rattle.std.specs.Prelude.{◌≡◌, ◌%◌, ◌/◌, ◌↔◌, IfOk, IsTrue, length, vec_items};
+ghost use Rattle.std.specs.List.{AllPass};
+ghost use Rattle.hex.specs.Hex.{is_hex_digit};
+ghost use Rattle.wire.specs.Several.{several};
+ghost use Rattle.hexes.specs.Hex.{ended_with, hex_of, pair_of};
 ghost use Rattle.std.specs.Option.{option_map};
 
 use std::alloc::{AllocError, Global};
+
+// Whether a word is pairs of digits and nothing else.
+fn is_hex(word: &[u8]) -> bool
+    ensures { IsTrue result ↔ ((length word.now % 2 ≡ 0) × AllPass is_hex_digit word.now) }
+{
+    word.len() % 2 == 0 && word.iter().all(|byte| byte.is_ascii_hexdigit())
+}
+
+// The bytes of a word that is pairs of digits.
+fn decode(heap: Global, word: &[u8]) -> Result<Option<Vec<u8>>, AllocError>
+    ensures { IfOk result (λ o. option_map vec_items o ≡ ended_with (several pair_of (length word.now / 2) word.now)) }
+{
+    // before memory is asked for: a word that writes no bytes needs none
+    if !is_hex(word) {
+        return Ok(None);
+    }
+    let mut bytes = vec![in heap; 0; word.len() / 2]?;
+    match hex::decode_to_slice(word, bytes.as_mut_slice()) {
+        Ok(()) => Ok(Some(bytes)),
+        Err(_) => Ok(None),
+    }
+}
 
 // The bytes that a word writes, if it is two digits for each of them; `-` stands for no bytes.
 pub fn parse_hex(heap: Global, word: &[u8]) -> Result<Option<Vec<u8>>, AllocError>
@@ -14,9 +39,5 @@ pub fn parse_hex(heap: Global, word: &[u8]) -> Result<Option<Vec<u8>>, AllocErro
     if word == b"-".as_slice() {
         return Ok(Some(Vec::new(heap)));
     }
-    let mut bytes = vec![in heap; 0; word.len() / 2]?;
-    match hex::decode_to_slice(word, bytes.as_mut_slice()) {
-        Ok(()) => Ok(Some(bytes)),
-        Err(_) => Ok(None),
-    }
+    decode(heap, word)
 }

@@ -1,7 +1,10 @@
 use Rattle.std.proofs.Common.{◌≡◌, ◌++◌, take, drop, length, rules}
 use Rattle.std.proofs.lemmas.List.{take_at}
-use Rattle.hexes.proofs.Pairs.{decoded_into}
-use Rattle.hexes.proofs.parse_hex.Goals as goal
+use Rattle.hexes.proofs.Pairs.{decoded_into, refused}
+use Rattle.hexes.proofs.decode.Goals as goal
+
+pub returns-then-not-is_hex : goal.returns-then-not-is_hex
+returns-then-not-is_hex c = let e = refused c.args.word.now (λ h. cc (c.if-not-is_hex.ensures.1 h)) in search rules
 
 pub returns-in-Ok : goal.returns-in-Ok
 returns-in-Ok c =
