@@ -6,7 +6,7 @@ use Rattle.std.specs.Char.{is_ascii_digit}
 use Rattle.text.specs.Text.{at_most, digits_after}
 
 -- a number that is too large stays so, whatever follows
-too_large : (max n : ℕ) (bs : List ℕ) → max < n → at_most max (digits_after n bs) ≡ None
+pub too_large : (max n : ℕ) (bs : List ℕ) → max < n → at_most max (digits_after n bs) ≡ None
 too_large max n [] h = cond-false (leb n max) (Some n) None (lt-leb n max h)
 too_large max n (b ∷ bs) h =
     ⊎_elim
@@ -14,9 +14,9 @@ too_large max n (b ∷ bs) h =
     (λ (d : is_ascii_digit b ≡ false). ap (at_most max) (cond-false (is_ascii_digit b) (digits_after (10 * n + (b - 48)) bs) None d))
     (cases_Bool (is_ascii_digit b))
 
--- the digit at place i makes it so
-pub too_large_at : (max n i : ℕ) (bs : List ℕ) → i < length bs → is_ascii_digit (get_or bs i 0) ≡ true → max < 10 * n + (get_or bs i 0 - 48) → at_most max (digits_after n (drop i bs)) ≡ None
-too_large_at max n i bs l d h =
+-- what is no digit at place i leaves no number
+pub no_digit_at : (max n i : ℕ) (bs : List ℕ) → i < length bs → is_ascii_digit (get_or bs i 0) ≡ false → at_most max (digits_after n (drop i bs)) ≡ None
+no_digit_at max n i bs l d =
     let b = get_or bs i 0 in
     let rest = drop (i + 1) bs in
-    ap (λ (r : List ℕ). at_most max (digits_after n r)) (drop_more bs i 0 l) ∙ ap (at_most max) (cond-true (is_ascii_digit b) (digits_after (10 * n + (b - 48)) rest) None d) ∙ too_large max (10 * n + (b - 48)) rest h
+    ap (λ (r : List ℕ). at_most max (digits_after n r)) (drop_more bs i 0 l) ∙ ap (at_most max) (cond-false (is_ascii_digit b) (digits_after (10 * n + (b - 48)) rest) None d)

@@ -40,10 +40,18 @@ pub fn parse_number(word: &[u8], max: u32) -> Option<u32>
     if word.is_empty() {
         return None;
     }
-    let mut value = 0u32;
+    // sums of 64 bits, looked at one digit later: `to_digit` and checked sums take twice the time
+    let limit = u64::from(max);
+    let mut value = 0;
     for byte in word {
-        let digit = char::from(*byte).to_digit(10)?;
-        value = value.checked_mul(10)?.checked_add(digit)?;
+        if value > limit || !byte.is_ascii_digit() {
+            return None;
+        }
+        value = 10 * value + u64::from(*byte - b'0');
     }
-    (value <= max).then_some(value)
+    if value > limit {
+        None
+    } else {
+        Some(value as u32)
+    }
 }
