@@ -171,9 +171,13 @@ impl Row<9> for Client {
 
     fn row_at(store: WholeTables<'_>, at: usize) -> Option<Client> {
         let last = *store.tables.lasts.get(at)?;
+        // a word is looked at only where there is a row
+        if last == 0 {
+            return None;
+        }
         let client = at as u8;
         let word = store.tables.words[at];
-        (last != 0).then_some(Client { client, last, word })
+        Some(Client { client, last, word })
     }
 }
 
