@@ -71,9 +71,11 @@ impl Tally {
         ensures taken { 0 < result → most_took members result self ≡ true }
         ensures largest { (k : ℕ) → result < k → k ≤ len → most_took members k self ≡ false }
     {
-        (1..=len)
-            .rev()
-            .find(|&count| self.most_took(members, count))
-            .unwrap_or(0)
+        for count in (1..=len).rev() {
+            if self.most_took(members, count) {
+                return count;
+            }
+        }
+        0
     }
 }
