@@ -45,4 +45,5 @@ returns-clause-log c =
     let l = c.loop-place in
     let f = front_none entry_of c.args.count l.place-index l.rest.now (search rules) in
     let g = sym (laid_none l.place-items l.place-index) ∙ ap (λ (fs : List (Judged Entry)). laid l.place-index (entries_in fs) l.place-items) (sym f) ∙ l.invariant.log in
-    loaded c.args.log.now l.place-items c.args.count c.from-places.result c.args.bytes.now (search rules) (search rules) g
+    let all = loaded c.args.log.now l.place-items c.args.count c.from-places.result c.args.bytes.now (search rules) (search rules) g in
+    search rules
