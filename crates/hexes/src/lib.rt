@@ -10,11 +10,22 @@ ghost use Rattle.std.specs.Option.{option_map};
 
 use std::alloc::{AllocError, Global};
 
+// Whether a byte is a digit. All three ranges are asked and added up: a branch between numbers and letters can't be
+// foreseen, and takes twice the time.
+fn is_digit(byte: u8) -> bool
+    ensures { result ≡ is_hex_digit byte }
+{
+    let number = (b'0' <= byte) & (byte <= b'9');
+    let small = (b'a' <= byte) & (byte <= b'f');
+    let large = (b'A' <= byte) & (byte <= b'F');
+    u8::from(number) + u8::from(small) + u8::from(large) == 1
+}
+
 // Whether a word is pairs of digits and nothing else.
 fn is_hex(word: &[u8]) -> bool
     ensures { IsTrue result ↔ ((length word.now % 2 ≡ 0) × AllPass is_hex_digit word.now) }
 {
-    word.len() % 2 == 0 && word.iter().all(|byte| byte.is_ascii_hexdigit())
+    word.len() % 2 == 0 && word.iter().all(|byte| is_digit(*byte))
 }
 
 // The bytes of a word that is pairs of digits.
